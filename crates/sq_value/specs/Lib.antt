@@ -1,0 +1,5 @@
+pub mod Name
+pub mod Comparison
+pub mod Numeral
+pub mod Relation
+pub mod Flat

@@ -1,0 +1,23 @@
+//! Values, truth and tables: what every other crate of the engine speaks of.
+//!
+//! A value is a null, a 64-bit integer or a text. Two values compare under SQL's three truth
+//! values. A table is a list of rows over typed columns.
+#![tactic(auto)]
+
+mod integer;
+mod memory;
+mod name;
+mod predicate;
+mod table;
+mod tables;
+mod text;
+mod value;
+
+pub use integer::{IntFault, read_int};
+pub use memory::Memory;
+pub use name::same_name;
+pub use predicate::{Kinds, NoPredicates, Predicates};
+pub use table::{Column, Table};
+pub use tables::Tables;
+pub use text::SqText;
+pub use value::{Cmp, ColType, SortWay, Truth, Value, compare};

@@ -1,0 +1,100 @@
+ghost use Rattle.std.specs.Prelude.{◌≡◌, [], ◌∷◌, ◌++◌, ◌<◌, length, Some, IfOk, IfSome, OnOk, OnErr, slice_get};
+
+use crate::memory::Memory;
+use crate::text::SqText;
+use crate::value::{ColType, Value};
+use std::alloc::Global;
+use std::marker::Model;
+
+/// A column of a table: its name, as it was written, and the type of its values.
+#[derive(Debug, Drop)]
+pub struct Column {
+    pub name: SqText,
+    pub kind: ColType,
+}
+
+/// A table: typed columns and rows, in the order in which they were pushed.
+///
+/// The rows lie one after another in one flat list of values, so that a row costs no list of its
+/// own and a cell is one index computation. A table of integers takes 16 bytes a cell.
+#[derive(Debug, Drop)]
+pub struct Table {
+    columns: Vec<Column>,
+    values: Vec<Value>,
+    rows: u32,
+}
+
+impl Model for Table {
+    ghost use Rattle.std.specs.Prelude.{◌≡◌, ◌*◌, length};
+    ghost use Rattle.sq_value.specs.Relation.{Relation};
+
+    ghost Value = { Relation };
+
+    ghost use Rattle.sq_value.specs.Flat.{relation_of, IsFlat};
+
+    ghost view = { relation_of };
+
+    ghost invariant = { IsFlat };
+}
+
+impl Table {
+    ghost use Rattle.sq_value.specs.Relation.{IsRow, IsHeading, HasKind, cell};
+
+    /// A table of these columns without rows. It has 1 to 64 columns, whose names differ by
+    /// [`same_name`](crate::same_name).
+    ///
+    /// # Errors
+    /// `Memory`: there is no memory for it.
+    pub fn new(alloc: Global, columns: Vec<Column>) -> Result<Table, Memory>
+        requires { IsHeading columns.items }
+        ensures { IfOk result (λ t. t ≡ record { columns = columns.items; rows = [] }) }
+    {
+        Ok(Table {
+            columns,
+            values: Vec::new(alloc),
+            rows: 0,
+        })
+    }
+
+    /// Puts a row behind the others. It has one value for each column, null or of the column's
+    /// type, and the table has fewer than 4,294,967,295 rows.
+    ///
+    /// # Errors
+    /// `Memory`: there is no memory for the row. The table is unchanged and the row is dropped.
+    pub fn push_row(&mut self, mut row: Vec<Value>) -> Result<(), Memory>
+        requires fits { IsRow self.old.columns row.items }
+        requires room { length self.old.rows < 4294967295 }
+        ensures ok { OnOk result (self.new ≡ record self.old { rows = self.old.rows ++ row.items ∷ [] }) }
+        ensures err { OnErr result (self.new ≡ self.old) }
+    {
+        self.values.append(&mut row)?;
+        self.rows += 1;
+        Ok(())
+    }
+
+    /// The number of rows.
+    pub fn rows(&self) -> u32
+        ensures { result ≡ length self.now.rows }
+    {
+        self.rows
+    }
+
+    /// The columns, in order.
+    pub fn columns(&self) -> &[Column]
+        ensures columns { result.now ≡ self.now.columns }
+        ensures heading { IsHeading result.now }
+    {
+        self.columns.as_slice()
+    }
+
+    /// The value at a row and a column, both counted from 0 and in range.
+    pub fn value(&self, row: u32, column: u32) -> &Value
+        requires row_in { row < length self.now.rows }
+        requires column_in { column < length self.now.columns }
+        ensures value { cell self.now row column ≡ Some result.now }
+        ensures kind { IfSome (slice_get self.now.columns column) (λ c. HasKind c.kind result.now) }
+    {
+        let width = self.columns.len();
+        &self.values[row as usize * width + column as usize]
+    }
+}
