@@ -1,4 +1,5 @@
 pub mod Name
+pub mod Truth
 pub mod Comparison
 pub mod Numeral
 pub mod Relation

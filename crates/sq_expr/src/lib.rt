@@ -1,0 +1,11 @@
+//! Bound conditions and query blocks: what binding makes of a statement, and what the engine runs.
+//!
+//! Aliases, conjuncts, rows and columns count from 0. The lists and boxes inside these types are
+//! seen by contracts as what they hold, so that a definition can build a block.
+#![tactic(auto)]
+
+mod block;
+mod cond;
+
+pub use block::{Access, AliasUse, Block, Conjunct, OrderKey, OutCol};
+pub use cond::{Arg, Chosen, ColumnOf, Cond, Side, Term};
