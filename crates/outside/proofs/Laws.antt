@@ -1,0 +1,76 @@
+-- What callers need of counts of faults, of what sinks tell, and of files that are read.
+use Rattle.std.proofs.Common.{◌≡◌, ℕ, ◌<◌, ◌≤◌, List, [], ◌++◌, length, take, Option, None, Some, Result, Ok, Err, refl, sym, ap, ◌∙◌, subst, append_assoc, arith}
+use Rattle.std.specs.Prelude.{OnErr, option_map}
+use Rattle.std.proofs.lemmas.List.{append-nil, length-take, take_all}
+use Rattle.outside.specs.Faults.{Rose, NeverFalls}
+use Rattle.outside.specs.Told.{Adds, AddsFront}
+
+-- a count that rose has risen at any later time
+pub Rose-later : (before now later : ℕ) → Rose before now → NeverFalls now later → Rose before later
+Rose-later before now later rose stays = omega arith
+
+-- and seen from any earlier time
+pub Rose-earlier : (earlier before now : ℕ) → NeverFalls earlier before → Rose before now → Rose earlier now
+Rose-earlier earlier before now stays rose = omega arith
+
+-- nothing was put
+pub Adds-nothing : (told : Option (List ℕ)) → Adds told told []
+Adds-nothing None = tt
+Adds-nothing (Some xs) = sym (append-nil xs)
+
+-- two texts in a row are one text
+pub Adds-twice : (old mid new : Option (List ℕ)) (first second : List ℕ)
+    → Adds old mid first → Adds mid new second → Adds old new (first ++ second)
+Adds-twice None None None first second h k = tt
+Adds-twice None None (Some z) first second h k = k
+Adds-twice None (Some y) new first second h k = absurd h
+Adds-twice (Some x) None None first second h k = tt
+Adds-twice (Some x) None (Some z) first second h k = absurd k
+Adds-twice (Some x) (Some y) None first second h k = tt
+Adds-twice (Some x) (Some y) (Some z) first second h k =
+    k ∙ ap (λ (w : List ℕ). w ++ second) h ∙ append_assoc x first second
+
+-- the whole text is a front of it
+pub AddsFront-whole : (old new : Option (List ℕ)) (text : List ℕ) → Adds old new text → AddsFront old new text
+AddsFront-whole old new text h = (text, [], sym (append-nil text), h)
+
+-- nothing is a front of any text
+pub AddsFront-nothing : (told : Option (List ℕ)) (text : List ℕ) → AddsFront told told text
+AddsFront-nothing told text = ([], text, refl, Adds-nothing told)
+
+-- a text, and then a front of the next
+pub AddsFront-after : (old mid new : Option (List ℕ)) (first second : List ℕ)
+    → Adds old mid first → AddsFront mid new second → AddsFront old new (first ++ second)
+AddsFront-after old mid new first second h (front, rest, split, k) =
+    (first ++ front, rest, ap (λ (w : List ℕ). first ++ w) split ∙ sym (append_assoc first front rest), Adds-twice old mid new first front h k)
+
+-- a front of a text is a front of what begins with it
+pub AddsFront-longer : (old new : Option (List ℕ)) (text more : List ℕ)
+    → AddsFront old new text → AddsFront old new (text ++ more)
+AddsFront-longer old new text more (front, rest, split, k) =
+    (front, rest ++ more, ap (λ (w : List ℕ). w ++ more) split ∙ append_assoc front rest more, k)
+
+-- a text, a front of the next, and a whole that begins with both
+pub AddsFront-within : (old mid new : Option (List ℕ)) (first second more text : List ℕ) → text ≡ (first ++ second) ++ more
+    → Adds old mid first → AddsFront mid new second → AddsFront old new text
+AddsFront-within old mid new first second more text split h k =
+    subst (AddsFront old new) (sym split)
+    (AddsFront-longer old new (first ++ second) more (AddsFront-after old mid new first second h k))
+
+-- a text, and then a last put that may fail
+pub AddsFront-at_err : {T E : Type 0} (r : Result T E) (old mid new : Option (List ℕ)) (first second : List ℕ)
+    → Adds old mid first → OnErr r (AddsFront mid new second) → OnErr r (AddsFront old new (first ++ second))
+AddsFront-at_err (Ok x) old mid new first second h k = tt
+AddsFront-at_err (Err e) old mid new first second h k = AddsFront-after old mid new first second h k
+
+-- where fewer bytes came than the limit, they are the whole file
+pub read-whole : (found : Option (List ℕ)) (limit : ℕ) (bytes : List ℕ)
+    → option_map (take limit) found ≡ Some bytes → length bytes < limit → found ≡ Some bytes
+read-whole None limit bytes e h = cc
+read-whole (Some xs) limit bytes e h =
+    let same : take limit xs ≡ bytes = cc in
+    let short : length xs ≤ limit = omega (arith, length-take limit xs, ap length same) in
+    ap Some (sym (take_all limit xs short) ∙ same)
+
+-- the laws of what is told, for a search in a caller
+pub ruleset puts = (Adds-nothing, Adds-twice, AddsFront-whole, AddsFront-nothing, AddsFront-after, AddsFront-longer, AddsFront-at_err)

@@ -1,0 +1,30 @@
+ghost use Rattle.std.specs.Prelude.{◌≡◌, ℕ, List, Option, ◌≤◌, vec_len, IfOk};
+ghost use Rattle.outside.specs.Files.{File, Gives, Lacks};
+ghost use Rattle.outside.specs.Faults.{NeverFalls, Rose};
+
+use crate::fault::LoadFault;
+use std::alloc::Global;
+
+/// Where files are loaded from.
+///
+/// It tells what it holds, where that is known, and counts its faults in a number that begins at 0,
+/// never falls and stays at 18,446,744,073,709,551,615.
+pub trait Folder {
+    ghost holds: { Self → Option (List File) };
+
+    ghost faults: { Self → ℕ };
+
+    /// Loads the first bytes of a file, at most `limit` of them.
+    ///
+    /// # Errors
+    /// - `Absent`: the folder tells what it holds and holds no file of that name.
+    /// - `Failed`: reading failed, and the count of faults rose.
+    /// - `Memory`: there is no memory for the bytes.
+    fn load(&mut self, alloc: Global, name: &str, limit: usize) -> Result<Vec<u8>, LoadFault>
+        ensures keeps { holds self.new ≡ holds self.old }
+        ensures counts { NeverFalls (faults self.old) (faults self.new) }
+        ensures within { IfOk result (λ bytes. vec_len bytes ≤ limit) }
+        ensures gives { IfOk result (λ bytes. Gives (holds self.old) name.now limit bytes.items) }
+        ensures absent { result ≡ Err LoadFault.Absent → Lacks (holds self.old) name.now }
+        ensures failed { result ≡ Err LoadFault.Failed → Rose (faults self.old) (faults self.new) };
+}
