@@ -7,6 +7,9 @@
 
 mod fault;
 mod folder;
+mod memory_folder;
+mod memory_sink;
+mod next;
 mod real_folder;
 mod real_sink;
 mod sink;
@@ -16,6 +19,8 @@ mod sure_sink;
 
 pub use fault::{LoadFault, PutFault};
 pub use folder::Folder;
+pub use memory_folder::MemoryFolder;
+pub use memory_sink::MemorySink;
 pub use real_folder::RealFolder;
 pub use real_sink::RealSink;
 pub use sink::Sink;
