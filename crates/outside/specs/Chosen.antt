@@ -63,5 +63,5 @@ after_put s piece =
       written = s.written ++ take (count_taken s piece) piece;
       room = s.room - count_taken s piece;
       puts = raised s.puts;
-      faults = (if put_fails s piece then raised s.faults else s.faults)
+      faults = (if put_fails s piece then raised s.faults else s.faults);
     }

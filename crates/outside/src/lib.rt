@@ -16,6 +16,8 @@ mod sink;
 mod stored;
 mod sure_folder;
 mod sure_sink;
+#[cfg(test)]
+mod tests;
 
 pub use fault::{LoadFault, PutFault};
 pub use folder::Folder;

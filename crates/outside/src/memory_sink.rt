@@ -114,7 +114,10 @@ impl MemorySink {
     {
         let choice = choice_at(&self.chosen, self.puts);
         let fails = choice.is_some() || self.room < piece.len();
-        let count = choice.unwrap_or(piece.len()).min(piece.len()).min(self.room);
+        let count = choice
+            .unwrap_or(piece.len())
+            .min(piece.len())
+            .min(self.room);
         self.written.extend_from_slice(&piece[..count]).unwrap();
         self.room -= count;
         self.puts = self.puts.saturating_add(1);
