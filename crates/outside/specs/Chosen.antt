@@ -1,5 +1,5 @@
 -- Folders and sinks in memory, whose faults are chosen beforehand by the numbers of the calls, from 1.
-use Rattle.std.specs.Prelude.{◌≡◌, ℕ, ◌+◌, ◌-◌, List, [], ◌++◌, length, min, take, Bool, ◌||◌, ◌==◌, nat_lt, Option, is_some, unwrap_or, option_map, find, if◌then◌else◌}
+use Rattle.std.specs.Prelude.{ℕ, ◌+◌, ◌-◌, List, [], ◌++◌, length, min, take, Bool, ◌||◌, ◌==◌, nat_lt, Option, is_some, unwrap_or, option_map, find, if◌then◌else◌}
 use Rattle.std.specs.List.{list_any}
 use Rattle.outside.specs.Faults.{raised}
 use Rattle.outside.specs.Files.{File}
