@@ -76,6 +76,23 @@ fn sinks_take_as_much_as_fits(rt: HostRuntime) -> Result<(), Fail> {
 }
 
 #[test]
+fn faults_say_what_failed(rt: HostRuntime) -> Result<(), Fail> {
+    let texts = [
+        (LoadFault::Absent, "no such file"),
+        (LoadFault::Failed, "reading failed"),
+        (LoadFault::Memory, "out of memory"),
+    ];
+    for (fault, text) in texts {
+        assert_eq!(rt; format!(in rt.alloc(); "{fault}")?.as_str(), text);
+    }
+    assert_eq!(rt;
+        format!(in rt.alloc(); "{}", PutFault::Failed)?.as_str(),
+        "writing failed"
+    );
+    Ok(())
+}
+
+#[test]
 fn the_file_system_is_a_folder(rt: HostRuntime) -> Result<(), Fail> {
     let name = "outside_test_file";
     fs::write(&rt, name, "abc")?;
