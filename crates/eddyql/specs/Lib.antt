@@ -1,0 +1,6 @@
+pub mod Code
+pub mod Words
+pub mod Script
+pub mod TableText
+pub mod Join
+pub mod Binding

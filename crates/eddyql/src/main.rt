@@ -1,0 +1,7 @@
+//! eddyql: reads a script of queries and CSV files named as tables, and writes each query's
+//! answer as CSV.
+#![tactic(auto)]
+
+mod status;
+
+fn main() {}
