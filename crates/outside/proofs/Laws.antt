@@ -1,7 +1,9 @@
 -- What callers need of counts of faults, of what sinks tell, and of files that are read.
-use Rattle.std.proofs.Common.{◌≡◌, ℕ, ◌<◌, ◌≤◌, List, [], ◌++◌, length, take, Option, None, Some, Result, Ok, Err, refl, sym, ap, ◌∙◌, subst, append_assoc, arith}
+use Rattle.std.proofs.Common.{◌≡◌, ℕ, ◌+◌, ◌<◌, ◌≤◌, List, [], ◌∷◌, ◌++◌, length, take, drop, get_or, Option, None, Some, Result, Ok, Err, refl, sym, ap, ◌∙◌, subst, append_assoc, arith}
 use Rattle.std.specs.Prelude.{OnErr, option_map}
-use Rattle.std.proofs.lemmas.List.{append-nil, length-take, take_all}
+use Rattle.std.proofs.lemmas.List.{append-nil, length-take, take_all, take_more, take-append-drop}
+use Rattle.std.proofs.lemmas.Grind.{flat_map-append}
+use Rattle.std.specs.List.{flat_map}
 use Rattle.outside.specs.Faults.{Rose, NeverFalls}
 use Rattle.outside.specs.Told.{Adds, AddsFront}
 
@@ -63,6 +65,30 @@ pub AddsFront-at_err : {T E : Type 0} (r : Result T E) (old mid new : Option (Li
 AddsFront-at_err (Ok x) old mid new first second h k = tt
 AddsFront-at_err (Err e) old mid new first second h k = AddsFront-after old mid new first second h k
 
+-- the texts of all items: those before one, its own, and those behind it
+flat_map-split : {X : Type 0} (f : X → List ℕ) (xs : List X) (i : ℕ) (d : X) → i < length xs
+    → flat_map f xs ≡ (flat_map f (take i xs) ++ f (get_or xs i d)) ++ flat_map f (drop (i + 1) xs)
+flat_map-split f xs i d h =
+    let whole : flat_map f xs ≡ flat_map f (take (i + 1) xs ++ drop (i + 1) xs) =
+    ap (flat_map f) (sym (take-append-drop (i + 1) xs)) in
+    let parts : flat_map f (take (i + 1) xs ++ drop (i + 1) xs) ≡ flat_map f (take (i + 1) xs) ++ flat_map f (drop (i + 1) xs) =
+    flat_map-append f (take (i + 1) xs) (drop (i + 1) xs) in
+    let more : flat_map f (take (i + 1) xs) ≡ flat_map f (take i xs ++ (get_or xs i d ∷ [])) =
+    ap (flat_map f) (take_more xs i d h) in
+    let last : flat_map f (take i xs ++ (get_or xs i d ∷ [])) ≡ flat_map f (take i xs) ++ (f (get_or xs i d) ++ []) =
+    flat_map-append f (take i xs) (get_or xs i d ∷ []) in
+    let bare : f (get_or xs i d) ++ [] ≡ f (get_or xs i d) = append-nil (f (get_or xs i d)) in
+    whole ∙ parts ∙ ap (λ (w : List ℕ). w ++ flat_map f (drop (i + 1) xs)) (more ∙ last ∙ ap (λ (w : List ℕ). flat_map f (take i xs) ++ w) bare)
+
+-- in a loop that puts the text of each item: what was put before one, and a front of its text
+pub AddsFront-at_item : {X : Type 0} (f : X → List ℕ) (xs : List X) (i : ℕ) (x : X) (old mid new : Option (List ℕ))
+    → i < length xs → x ≡ get_or xs i x → Adds old mid (flat_map f (take i xs)) → AddsFront mid new (f x)
+    → AddsFront old new (flat_map f xs)
+AddsFront-at_item f xs i x old mid new h item before at =
+    let split : flat_map f xs ≡ (flat_map f (take i xs) ++ f x) ++ flat_map f (drop (i + 1) xs) =
+    flat_map-split f xs i x h ∙ ap (λ y. (flat_map f (take i xs) ++ f y) ++ flat_map f (drop (i + 1) xs)) (sym item) in
+    AddsFront-within old mid new (flat_map f (take i xs)) (f x) (flat_map f (drop (i + 1) xs)) (flat_map f xs) split before at
+
 -- where fewer bytes came than the limit, they are the whole file
 pub read-whole : (found : Option (List ℕ)) (limit : ℕ) (bytes : List ℕ)
     → option_map (take limit) found ≡ Some bytes → length bytes < limit → found ≡ Some bytes
@@ -73,4 +99,4 @@ read-whole (Some xs) limit bytes e h =
     ap Some (sym (take_all limit xs short) ∙ same)
 
 -- the laws of what is told, for a search in a caller
-pub ruleset puts = (Adds-nothing, Adds-twice, AddsFront-whole, AddsFront-nothing, AddsFront-after, AddsFront-longer, AddsFront-at_err)
+pub ruleset puts = (Adds-nothing, Adds-twice, AddsFront-whole, AddsFront-nothing, AddsFront-after, AddsFront-longer, AddsFront-at_err, AddsFront-at_item)

@@ -2,3 +2,4 @@ pub mod Files
 pub mod Faults
 pub mod Told
 pub mod Sure
+pub mod Chosen

@@ -7,15 +7,22 @@
 
 mod fault;
 mod folder;
+mod memory_folder;
+mod memory_sink;
+mod next;
 mod real_folder;
 mod real_sink;
 mod sink;
 mod stored;
 mod sure_folder;
 mod sure_sink;
+#[cfg(test)]
+mod tests;
 
 pub use fault::{LoadFault, PutFault};
 pub use folder::Folder;
+pub use memory_folder::MemoryFolder;
+pub use memory_sink::MemorySink;
 pub use real_folder::RealFolder;
 pub use real_sink::RealSink;
 pub use sink::Sink;
