@@ -5,3 +5,5 @@ pub mod TableText
 pub mod Join
 pub mod Binding
 pub mod Writing
+pub mod Outcome
+pub mod Refusal

@@ -2,6 +2,7 @@
 //! answer as CSV.
 #![tactic(auto)]
 
+mod binding;
 mod status;
 mod writing;
 

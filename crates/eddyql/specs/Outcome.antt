@@ -1,0 +1,84 @@
+-- What a run must answer: the outcome of words over files is the text of the answer, or the first refusal.
+use Rattle.std.specs.Prelude.{◌≡◌, ℕ, ◌+◌, List, [], ◌∷◌, Option, Some, None, Result, Ok, Err, slice_get, ⊤}
+use Rattle.std.specs.Option.{option_map_or}
+use Rattle.sq_value.specs.Relation.{Relation}
+use Rattle.sq_value.specs.declared.table.Column.{Column}
+use Rattle.sq_expr.specs.declared.block.Block.{Block}
+use Rattle.bag_meaning.specs.Bag.{bag}
+use Rattle.bag_meaning.specs.Answer.{answer_text}
+use Rattle.outside.specs.Files.{File, lookup}
+use Rattle.eddyql.specs.Words.{TableWord, Command, command}
+use Rattle.eddyql.specs.Script.{JoinQuery, early_script}
+use Rattle.eddyql.specs.TableText.{early_table}
+use Rattle.eddyql.specs.Join.{no_meaning}
+use Rattle.eddyql.specs.Binding.{block_of}
+use Rattle.eddyql.specs.declared.status.Status.{Status}
+use Rattle.eddyql.specs.declared.status.Status.TheVariants as status
+use Rattle.eddyql.specs.declared.status.FileOf.TheVariants as file
+use Rattle.eddyql.specs.declared.status.ParseFault.TheVariants.{Syntax}
+use Rattle.eddyql.specs.declared.status.TableFault.TheVariants.{NoHeading}
+use Rattle.eddyql.specs.declared.status.BindFault.TheVariants.{UnknownColumn}
+
+-- the value of an option, or else a refusal
+abbrev pub or_refuse : {A : Type 0} → Status → Option A → Result A Status
+or_refuse refusal None = Err refusal
+or_refuse refusal (Some x) = Ok x
+
+-- one step after another, up to the first refusal
+infixl 10 ◌>>=◌
+abbrev pub ◌>>=◌ : {A B : Type 0} → Result A Status → (A → Result B Status) → Result B Status
+Err refusal >>= more = Err refusal
+Ok x >>= more = more x
+
+-- the table of the file of this name; tables count from 0
+abbrev pub table_read : ℕ → List File → TableWord → Result Relation Status
+table_read number files t = do
+  bytes ← or_refuse (status.NotFound (file.Table number)) (lookup files t.file)
+  or_refuse (status.BadTable number NoHeading) (early_table bytes)
+
+-- the tables of these words, in order, the first of them with this number
+unfoldable pub tables_read : ℕ → List File → List TableWord → Result (List Relation) Status
+tables_read number files [] = Ok []
+tables_read number files (t ∷ ts) = do
+  table ← table_read number files t
+  tables ← tables_read (number + 1) files ts
+  Ok (table ∷ tables)
+
+-- the join that the script of a command asks for
+abbrev pub query_read : Command → List File → Result JoinQuery Status
+query_read c files = do
+  text ← or_refuse (status.NotFound file.Script) (lookup files c.script)
+  or_refuse (status.Script (Syntax 0)) (early_script c.tables text)
+
+-- the columns of a table
+abbrev pub columns_at : List Relation → ℕ → List Column
+columns_at tables table = option_map_or (λ (t : Relation). t.columns) (slice_get tables table) []
+
+-- the block of a join over the tables
+abbrev pub block_bound : JoinQuery → List Relation → Result Block Status
+block_bound query tables =
+    or_refuse (status.Bind 1 (UnknownColumn 0)) (block_of query (columns_at tables query.left) (columns_at tables query.right))
+
+-- what a run runs: a block over tables
+pub record Plan : Type 0 where
+  pub block : Block
+  pub tables : List Relation
+
+-- the plan of a command over files: the script is read first, then the tables in order, then the columns are bound
+unfoldable pub plan_of : Command → List File → Result Plan Status
+plan_of c files = do
+  query ← query_read c files
+  tables ← tables_read 0 files c.tables
+  block ← block_bound query tables
+  Ok record { block = block; tables = tables }
+
+-- the text that a plan's answer has: without ORDER BY the answer is the bag in the order of the product
+abbrev pub text_of : Plan → List ℕ
+text_of plan = answer_text plan.block plan.tables (bag no_meaning plan.block plan.tables)
+
+-- the outcome of words over files
+unfoldable pub outcome : List (List ℕ) → List File → Result (List ℕ) Status
+outcome words files = do
+  c ← or_refuse status.Usage (command words)
+  plan ← plan_of c files
+  Ok (text_of plan)
