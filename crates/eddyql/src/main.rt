@@ -5,5 +5,6 @@
 mod binding;
 mod status;
 mod writing;
+mod words;
 
 fn main() {}
