@@ -1,4 +1,4 @@
-ghost use Rattle.std.specs.Prelude.{◌≡◌, [], ◌∷◌, ◌++◌, ◌<◌, length, Some, IfOk, IfSome, OnOk, OnErr, slice_get};
+ghost use Rattle.std.specs.Prelude.{◌≡◌, [], ◌∷◌, ◌++◌, ◌<◌, length, Some, IfOk, IfSome, OnOk, OnErr, All, slice_get};
 
 use crate::memory::Memory;
 use crate::text::SqText;
@@ -74,7 +74,8 @@ impl Table {
 
     /// The number of rows.
     pub fn rows(&self) -> u32
-        ensures { result ≡ length self.now.rows }
+        ensures count { result ≡ length self.now.rows }
+        ensures fits { All (IsRow self.now.columns) self.now.rows }
     {
         self.rows
     }
