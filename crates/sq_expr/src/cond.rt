@@ -91,7 +91,7 @@ impl Cond {
     /// row of its alias, with values of one type.
     pub fn truth<F: Predicates>(&self, rows: &Chosen<'_>, _functions: &F) -> Truth
         requires { IsColumnEquality rows.now.tables.now rows.now.uses rows.now.rows self.now }
-        ensures { result ≡ truth_of (F.gives _functions.now) (value_in rows.now.tables.now rows.now.uses rows.now.rows) self.now }
+        ensures { result ≡ truth_of F.gives (value_in rows.now.tables.now rows.now.uses rows.now.rows) self.now }
     {
         match self {
             Cond::Compare(left, cmp, right) => {

@@ -1,4 +1,4 @@
-ghost use Rattle.std.specs.Prelude.{◌≡◌, ℕ, Option, Some, None, IsSome, IfSome, option_map};
+ghost use Rattle.std.specs.Prelude.{◌≡◌, ℕ, Option, Some, None, IsSome, IfSome};
 
 use crate::value::{ColType, Truth, Value};
 
@@ -10,16 +10,18 @@ pub struct Kinds {
 }
 
 /// The registered predicates of a query: each has a name, a number, the types of its two
-/// arguments, and a meaning, which is the truth that it gives of two values.
+/// arguments, and a meaning, which is the truth that it gives of two values. The meaning of a
+/// number belongs to the type, so it is the same for all values of the type.
 pub trait Predicates {
     ghost use Rattle.std.specs.Prelude.{List};
     ghost use Rattle.sq_value.specs.declared.value.Value.{Value};
     ghost use Rattle.sq_value.specs.declared.value.Truth.{Truth};
     ghost use Rattle.sq_value.specs.declared.predicate.Kinds.{Kinds};
     ghost use Rattle.sq_value.specs.Relation.{HasKind};
+    ghost use Rattle.sq_value.specs.Name.{IsSameName};
 
     // the truth that the predicate of a number gives of two values
-    ghost gives: { Self → ℕ → Value → Value → Truth };
+    ghost gives: { ℕ → Value → Value → Truth };
 
     // the argument types of the predicate of a number, where there is one
     ghost kinds_of: { Self → ℕ → Option Kinds };
@@ -31,7 +33,8 @@ pub trait Predicates {
     /// case of ASCII letters. None exactly where there is no such predicate.
     fn find(&self, name: &str) -> Option<u8>
         ensures number { result ≡ number_of self.now name.now }
-        ensures known { IfSome result (λ n. IsSome (kinds_of self.now n)) };
+        ensures known { IfSome result (λ n. IsSome (kinds_of self.now n)) }
+        ensures alike { (other : List ℕ) → IsSameName name.now other → number_of self.now other ≡ result };
 
     /// The argument types of the predicate with this number.
     fn kinds(&self, number: u8) -> Kinds
@@ -41,8 +44,9 @@ pub trait Predicates {
     /// The truth that the predicate with this number gives of two values of its argument types,
     /// either of which may be null.
     fn call(&self, number: u8, x: &Value, y: &Value) -> Truth
-        requires { IfSome (kinds_of self.now number) (λ k. HasKind k.first x.now × HasKind k.second y.now) × IsSome (kinds_of self.now number) }
-        ensures { result ≡ gives self.now number x.now y.now };
+        requires known { IsSome (kinds_of self.now number) }
+        requires fits { IfSome (kinds_of self.now number) (λ k. HasKind k.first x.now × HasKind k.second y.now) }
+        ensures { result ≡ gives number x.now y.now };
 }
 
 /// No predicate at all.
@@ -51,8 +55,9 @@ pub struct NoPredicates;
 
 impl Predicates for NoPredicates {
     ghost use Rattle.sq_value.specs.declared.value.Truth.TheVariants as truth;
+    ghost use Rattle.sq_value.specs.declared.value.ColType.TheVariants as kind;
 
-    ghost gives = { λ s number x y. truth.Unknown };
+    ghost gives = { λ number x y. truth.Unknown };
 
     ghost kinds_of = { λ s number. None };
 
@@ -63,7 +68,7 @@ impl Predicates for NoPredicates {
     }
 
     fn kinds(&self, _number: u8) -> Kinds
-        ensures { option_map (λ k. k) (Some result) ≡ Some result }
+        ensures { result ≡ record { first = kind.Integer; second = kind.Integer } }
     {
         Kinds {
             first: ColType::Integer,
