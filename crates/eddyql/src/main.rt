@@ -3,5 +3,6 @@
 #![tactic(auto)]
 
 mod status;
+mod writing;
 
 fn main() {}
