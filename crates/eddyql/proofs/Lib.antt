@@ -1,3 +1,5 @@
 pub mod TextLemmas
 pub mod BindingLemmas
 pub mod WordsLemmas
+pub mod OutcomeLemmas
+pub mod PlanLemmas

@@ -7,3 +7,5 @@ pub mod Binding
 pub mod Writing
 pub mod Outcome
 pub mod Refusal
+pub mod Seen
+pub mod Loaded

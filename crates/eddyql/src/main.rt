@@ -3,8 +3,13 @@
 #![tactic(auto)]
 
 mod binding;
+mod join;
+mod loading;
+mod plan;
+mod reading;
+mod script;
 mod status;
-mod writing;
 mod words;
+mod writing;
 
 fn main() {}
