@@ -2,6 +2,7 @@
 //! answer as CSV.
 #![tactic(auto)]
 
+mod script;
 mod status;
 mod words;
 
