@@ -1,14 +1,18 @@
 -- How the tokens of a script are read.
 use Rattle.std.proofs.Common.{◌≡◌, ℕ, zero, suc, ◌+◌, ◌-◌, ◌≤◌, ◌<◌, Bool, true, false, ◌&&◌, cond, eqb, ltb, leb, List, [], ◌∷◌, ◌++◌, length, take, drop, get_or, Option, Some, None, refl, sym, ap, lit<, ◌⊎◌, inl, inr, length-take, subst, ◌∙◌, arith}
-use Rattle.std.specs.Prelude.{◌||◌, not, map, option_map}
-use Rattle.std.specs.List.{prefix_len, position_or_len}
-use Rattle.std.proofs.lemmas.Bool.{false≢true, eqb-true}
+use Rattle.std.specs.Prelude.{◌||◌, ◌==◌, not, map, option_map, slice_get, codes, Result, Ok, Err, is_ok, MatchResult}
+use Rattle.std.specs.Str.{IsUtf8, IsValidUpTo}
+use Rattle.std.specs.Str.Lossy.{utf8_valid_len}
+use Rattle.std.proofs.lemmas.Str.{utf8_valid_len-IsUtf8, utf8_valid_len-IsValidUpTo}
+use Rattle.std.specs.List.{prefix_len, position_or_len, position}
+use Rattle.std.proofs.lemmas.Bool.{false≢true, eqb-true, eq-eqb, ne_eqb}
 use Rattle.std.proofs.lemmas.Bool.{cases_lt}
 use Rattle.std.proofs.lemmas.Bool.Decides.{nat_tests}
-use Rattle.std.proofs.lemmas.List.{get_or-take, get_or_past, map-append, append_assoc, append-nil}
+use Rattle.std.proofs.lemmas.List.{get_or-take, get_or_past, length-map, map-append, append_assoc, append-nil}
 use Rattle.std.proofs.lemmas.List.Sums.{prefix_len_passes, prefix_len-le-length}
-use Rattle.eddyql.specs.Words.{begins_identifier, follows_in_identifier}
-use Rattle.eddyql.specs.Script.{Token, is_blank, skipped, first_token, token_and, tokens_of}
+use Rattle.sq_value.specs.Name.{is_same_name}
+use Rattle.eddyql.specs.Words.{TableWord, table_of_word, begins_identifier, follows_in_identifier}
+use Rattle.eddyql.specs.Script.{Token, is_blank, skipped, first_token, token_and, tokens_of, is_word, is_mark, is_name, word_of, is_join_form, place_of, join_between, join_of_tokens, JoinQuery, early_script}
 use Rattle.eddyql.proofs.WordsLemmas.{from_place}
 
 -- a byte of a word is ASCII
@@ -118,3 +122,130 @@ tokens-push seen before after token n k text behind all e h f g =
 -- and once none is left to read
 pub tokens-end : (front rest all : List Token) → rest ≡ [] → front ++ rest ≡ all → front ≡ all
 tokens-end front rest all e g = sym (append-nil front) ∙ ap (λ (ts : List Token). front ++ ts) (sym e) ∙ g
+
+-- the place of a name among table words
+position_or_len-map : {X Y : Type 0} (p : Y → Bool) (f : X → Y) (xs : List X) → position_or_len p (map f xs) ≡ position_or_len (λ x. p (f x)) xs
+position_or_len-map p f [] = refl
+position_or_len-map p f (x ∷ xs) = ap (λ (n : ℕ). cond (not (p (f x))) (1 + n) 0) (position_or_len-map p f xs)
+
+position-map : {X Y : Type 0} (p : Y → Bool) (f : X → Y) (xs : List X) → position p (map f xs) ≡ position (λ x. p (f x)) xs
+position-map p f xs =
+    let long : length (map f xs) ≡ length xs = length-map xs f in
+    ap (λ (n : ℕ). cond (ltb (position_or_len p (map f xs)) n) (Some (position_or_len p (map f xs))) None) long
+    ∙ ap (λ (k : ℕ). cond (ltb k (length xs)) (Some k) None) (position_or_len-map p f xs)
+
+pub place_of-words : {X : Type 0} (bytes : X → List ℕ) (ws : List X) (name : List ℕ)
+    → place_of (map table_of_word (map bytes ws)) name ≡ position (λ w. is_same_name (table_of_word (bytes w)).name name) ws
+place_of-words bytes ws name =
+    position-map (λ (t : TableWord). is_same_name t.name name) table_of_word (map bytes ws)
+    ∙ position-map (λ w. is_same_name (table_of_word w).name name) bytes ws
+
+front : (a b : Bool) → (a && b) ≡ true → a ≡ true
+front true true e = refl
+front true false e = absurd (false≢true e)
+front false b e = absurd (false≢true e)
+
+back : (a b : Bool) → (a && b) ≡ true → b ≡ true
+back true true e = refl
+back true false e = absurd (false≢true e)
+back false b e = absurd (false≢true e)
+
+-- the places of a script in form at which names stand
+pub record HasNames (ts : List Token) : Type 0 where
+  pub left_source : is_name (slice_get ts 3) ≡ true
+  pub right_source : is_name (slice_get ts 5) ≡ true
+  pub left_qualifier : is_name (slice_get ts 7) ≡ true
+  pub left_column : is_name (slice_get ts 9) ≡ true
+  pub right_qualifier : is_name (slice_get ts 11) ≡ true
+  pub right_column : is_name (slice_get ts 13) ≡ true
+
+pub HasNames-from_parts : (ts : List Token)
+    → ((length ts == 14)
+    && is_word (codes "SELECT") (slice_get ts 0) && is_mark 42 (slice_get ts 1) && is_word (codes "FROM") (slice_get ts 2)
+    && is_name (slice_get ts 3) && is_mark 44 (slice_get ts 4) && is_name (slice_get ts 5)
+    && is_word (codes "WHERE") (slice_get ts 6)) ≡ true
+    → (is_name (slice_get ts 7) && is_mark 46 (slice_get ts 8) && is_name (slice_get ts 9)
+    && is_mark 61 (slice_get ts 10)
+    && is_name (slice_get ts 11) && is_mark 46 (slice_get ts 12) && is_name (slice_get ts 13)) ≡ true
+    → HasNames ts
+HasNames-from_parts ts e f =
+    let to_5 = front _ _ e in
+    let to_3 = front _ _ (front _ _ to_5) in
+    let to_11 = front _ _ (front _ _ f) in
+    let to_9 = front _ _ (front _ _ to_11) in
+    record {
+      left_source = back _ _ to_3;
+      right_source = back _ _ to_5;
+      left_qualifier = front _ _ (front _ _ to_9);
+      left_column = back _ _ to_9;
+      right_qualifier = back _ _ to_11;
+      right_column = back _ _ f;
+    }
+
+pub HasNames-from_form : (ts : List Token) → is_join_form ts ≡ true → HasNames ts
+HasNames-from_form ts e =
+    let f = front _ _ (front _ _ e) in
+    let to_11 = front _ _ (front _ _ f) in
+    let to_9 = front _ _ (front _ _ to_11) in
+    let to_7 = front _ _ (front _ _ to_9) in
+    let to_5 = front _ _ (front _ _ to_7) in
+    let to_3 = front _ _ (front _ _ to_5) in
+    record {
+      left_source = back _ _ to_3;
+      right_source = back _ _ to_5;
+      left_qualifier = back _ _ to_7;
+      left_column = back _ _ to_9;
+      right_qualifier = back _ _ to_11;
+      right_column = back _ _ f;
+    }
+
+-- whether bytes are UTF-8, as `from_utf8` tells
+pub is_ok-utf8 : {T E : Type 0} (bytes : List ℕ) (r : Result T E) (P : T → Type 0) (n : E → ℕ)
+    → MatchResult r (λ x. P x × IsUtf8 bytes) (λ e. ¬ (IsUtf8 bytes) × IsValidUpTo bytes (n e)) → is_ok r ≡ eqb (utf8_valid_len bytes) (length bytes)
+is_ok-utf8 bytes (Ok x) P n h = sym (eq-eqb (utf8_valid_len bytes) (length bytes) (utf8_valid_len-IsUtf8 bytes h.1))
+is_ok-utf8 bytes (Err e) P n h =
+    sym (ne_eqb (utf8_valid_len bytes) (length bytes) (λ all. apart (utf8_valid_len-IsValidUpTo bytes (n e) h.1) h.1.short all))
+  where
+    apart : utf8_valid_len bytes ≡ n e → n e < length bytes → utf8_valid_len bytes ≡ length bytes → ⊥
+    apart same short all = omega arith
+
+-- the join of tokens in form, by the places of their sources
+pub join_of_tokens-left : (tables : List TableWord) (ts : List Token) → is_join_form ts ≡ true → place_of tables (word_of (slice_get ts 3)) ≡ None
+    → None ≡ join_of_tokens tables ts
+join_of_tokens-left tables ts e f =
+    sym (ap (λ b. cond b (join_between (place_of tables (word_of (slice_get ts 3))) (place_of tables (word_of (slice_get ts 5))) ts) None) e
+    ∙ ap (λ o. join_between o (place_of tables (word_of (slice_get ts 5))) ts) f)
+
+pub join_of_tokens-both : (tables : List TableWord) (ts : List Token) (left : ℕ) (right : Option ℕ) → is_join_form ts ≡ true → place_of tables (word_of (slice_get ts 3)) ≡ Some left
+    → place_of tables (word_of (slice_get ts 5)) ≡ right → join_between (Some left) right ts ≡ join_of_tokens tables ts
+join_of_tokens-both tables ts left right e f g =
+    sym (ap (λ b. cond b (join_between (place_of tables (word_of (slice_get ts 3))) (place_of tables (word_of (slice_get ts 5))) ts) None) e
+    ∙ ap (λ o. join_between o (place_of tables (word_of (slice_get ts 5))) ts) f ∙ ap (λ o. join_between (Some left) o ts) g)
+
+-- what a look-up among the words says of the place of a name
+pub place_of-is : {X : Type 0} (bytes : X → List ℕ) (ws : List X) (asked name : List ℕ) (o r : Option ℕ) → asked ≡ name
+    → o ≡ position (λ w. is_same_name (table_of_word (bytes w)).name asked) ws → o ≡ r → place_of (map table_of_word (map bytes ws)) name ≡ r
+place_of-is bytes ws asked name o r e f g =
+    place_of-words bytes ws name ∙ sym (ap (λ (n : List ℕ). position (λ w. is_same_name (table_of_word (bytes w)).name n) ws) e) ∙ sym f ∙ g
+
+-- the join of two tables that tokens ask for
+abbrev pub join_at : ℕ → ℕ → List Token → JoinQuery
+join_at l r ts = record { left = l; right = r; left_column = word_of (slice_get ts 9); right_column = word_of (slice_get ts 13) }
+
+-- two places that are the same, and two that differ
+pub join_between-same : (l r : ℕ) (ts : List Token) → l ≡ r → None ≡ join_between (Some l) (Some r) ts
+join_between-same l r ts e = sym (ap (λ b. cond b None (Some (join_at l r ts))) (eq-eqb l r e))
+
+pub join_between-two : (l r : ℕ) (ts : List Token) → ¬ (l ≡ r) → Some (join_at l r ts) ≡ join_between (Some l) (Some r) ts
+join_between-two l r ts e = sym (ap (λ b. cond b None (Some (join_at l r ts))) (ne_eqb l r e))
+
+-- the script of a text that may not be one, and of one that may
+pub early_script-refused : (tables : List TableWord) (text : List ℕ) → (ltb 67108864 (length text) || not (eqb (utf8_valid_len text) (length text))) ≡ true
+    → None ≡ early_script tables text
+unfolding early_script
+early_script-refused tables text e = sym (ap (λ b. cond b None (join_of_tokens tables (tokens_of 15 text))) e)
+
+pub early_script-read : (tables : List TableWord) (text : List ℕ) → (ltb 67108864 (length text) || not (eqb (utf8_valid_len text) (length text))) ≡ false
+    → join_of_tokens tables (tokens_of 15 text) ≡ early_script tables text
+unfolding early_script
+early_script-read tables text e = sym (ap (λ b. cond b None (join_of_tokens tables (tokens_of 15 text))) e)
