@@ -159,8 +159,8 @@ pub record HasNames (ts : List Token) : Type 0 where
   pub right_qualifier : is_name (slice_get ts 11) ≡ true
   pub right_column : is_name (slice_get ts 13) ≡ true
 
-pub HasNames-from_parts : (ts : List Token)
-    → ((length ts == 14)
+pub HasNames-from_parts : (long : Bool) (ts : List Token)
+    → (long
     && is_word (codes "SELECT") (slice_get ts 0) && is_mark 42 (slice_get ts 1) && is_word (codes "FROM") (slice_get ts 2)
     && is_name (slice_get ts 3) && is_mark 44 (slice_get ts 4) && is_name (slice_get ts 5)
     && is_word (codes "WHERE") (slice_get ts 6)) ≡ true
@@ -168,7 +168,7 @@ pub HasNames-from_parts : (ts : List Token)
     && is_mark 61 (slice_get ts 10)
     && is_name (slice_get ts 11) && is_mark 46 (slice_get ts 12) && is_name (slice_get ts 13)) ≡ true
     → HasNames ts
-HasNames-from_parts ts e f =
+HasNames-from_parts long ts e f =
     let to_5 = front _ _ e in
     let to_3 = front _ _ (front _ _ to_5) in
     let to_11 = front _ _ (front _ _ f) in
