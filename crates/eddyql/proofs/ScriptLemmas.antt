@@ -5,10 +5,11 @@ use Rattle.std.specs.Str.{IsUtf8, IsValidUpTo}
 use Rattle.std.specs.Str.Lossy.{utf8_valid_len}
 use Rattle.std.proofs.lemmas.Str.{utf8_valid_len-IsUtf8, utf8_valid_len-IsValidUpTo}
 use Rattle.std.specs.List.{prefix_len, position_or_len, position}
-use Rattle.std.proofs.lemmas.Bool.{false≢true, eqb-true, eq-eqb, ne_eqb}
+use Rattle.std.proofs.lemmas.Bool.{false≢true, eqb-true, eq-eqb, ne_eqb, eqb-false}
 use Rattle.std.proofs.lemmas.Bool.{cases_lt}
 use Rattle.std.proofs.lemmas.Bool.Decides.{nat_tests}
 use Rattle.std.proofs.lemmas.List.{get_or-take, get_or_past, length-map, map-append, append_assoc, append-nil}
+use Rattle.std.proofs.lemmas.List.Quantifiers.{position-Some}
 use Rattle.std.proofs.lemmas.List.Sums.{prefix_len_passes, prefix_len-le-length}
 use Rattle.sq_value.specs.Name.{is_same_name}
 use Rattle.eddyql.specs.Words.{TableWord, table_of_word, begins_identifier, follows_in_identifier}
@@ -39,6 +40,7 @@ word-ascii (x ∷ xs) n h b e i =
     behind i here (inr high) =
         let at : get_or (take n xs) i 0 ≡ 0 = get_or_past (take n xs) i 0 (omega (arith, length-take n xs)) in
         omega (arith, at)
+
     by : (i : ℕ) → n ≡ prefix_len follows_in_identifier xs → get_or (take (suc n) (x ∷ xs)) i 0 < 128
     by zero here = begins-ascii x b
     by (suc i) here = behind i here (cases_lt i n)
@@ -249,3 +251,40 @@ pub early_script-read : (tables : List TableWord) (text : List ℕ) → (ltb 671
     → join_of_tokens tables (tokens_of 15 text) ≡ early_script tables text
 unfolding early_script
 early_script-read tables text e = sym (ap (λ b. cond b None (join_of_tokens tables (tokens_of 15 text))) e)
+
+-- the join of a script is of two different ones of the tables
+pub record IsOfTwo (tables : List TableWord) (query : JoinQuery) : Type 0 where
+  pub left : query.left < length tables
+  pub right : query.right < length tables
+  pub apart : ¬ (query.left ≡ query.right)
+
+place_of-in : (tables : List TableWord) (name : List ℕ) (i : ℕ) → place_of tables name ≡ Some i → i < length tables
+place_of-in tables name i e = (position-Some (λ (t : TableWord). is_same_name t.name name) tables i (record { name = []; file = [] }) e).0
+
+IsOfTwo-from_between : (tables : List TableWord) (query : JoinQuery) (ts : List Token) (l r : Option ℕ)
+    → ((i : ℕ) → l ≡ Some i → i < length tables) → ((i : ℕ) → r ≡ Some i → i < length tables)
+    → join_between l r ts ≡ Some query → IsOfTwo tables query
+IsOfTwo-from_between tables query ts None r left right e = absurd cc
+IsOfTwo-from_between tables query ts (Some l) None left right e = absurd cc
+IsOfTwo-from_between tables query ts (Some l) (Some r) left right e = by (eqb l r) refl e
+  where
+    by : (b : Bool) → eqb l r ≡ b → cond b None (Some (join_at l r ts)) ≡ Some query → IsOfTwo tables query
+    by true f e = absurd cc
+    by false f e =
+        let same : join_at l r ts ≡ query = cc in
+        subst (IsOfTwo tables) same (record { left = left l refl; right = right r refl; apart = eqb-false l r f })
+
+IsOfTwo-from_tokens : (tables : List TableWord) (query : JoinQuery) (ts : List Token) (b : Bool)
+    → cond b (join_between (place_of tables (word_of (slice_get ts 3))) (place_of tables (word_of (slice_get ts 5))) ts) None ≡ Some query
+    → IsOfTwo tables query
+IsOfTwo-from_tokens tables query ts true e =
+    IsOfTwo-from_between tables query ts _ _ (place_of-in tables (word_of (slice_get ts 3))) (place_of-in tables (word_of (slice_get ts 5))) e
+IsOfTwo-from_tokens tables query ts false e = absurd cc
+
+pub IsOfTwo-from_script : (tables : List TableWord) (text : List ℕ) (query : JoinQuery) → early_script tables text ≡ Some query → IsOfTwo tables query
+unfolding early_script
+IsOfTwo-from_script tables text query e = by (ltb 67108864 (length text) || not (eqb (utf8_valid_len text) (length text))) e
+  where
+    by : (b : Bool) → cond b None (join_of_tokens tables (tokens_of 15 text)) ≡ Some query → IsOfTwo tables query
+    by true e = absurd cc
+    by false e = IsOfTwo-from_tokens tables query (tokens_of 15 text) (is_join_form (tokens_of 15 text)) e

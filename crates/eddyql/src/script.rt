@@ -203,3 +203,74 @@ pub fn read_script<'s>(
     let tokens = first_tokens(alloc, TOKENS_READ, text)?;
     Ok(join_of_tokens(tables, &tokens))
 }
+
+#[cfg(test)]
+mod tests {
+    use super::*;
+    use std::test::Fail;
+
+    // Four table words; a reserved word may be a name of the command line.
+    const TABLES: [&str; 4] = ["t=a", "u=b", "Order_2=c", "from=d"];
+
+    type Joined = Option<(usize, usize, &'static str, &'static str)>;
+
+    #[test]
+    fn reads_scripts(rt: HostRuntime) -> Result<(), Fail> {
+        let joined: Joined = Some((0, 1, "c", "d"));
+        let cases: [(&[u8], Joined); 36] = [
+            (b"SELECT * FROM t, u WHERE t.c = u.d", joined),
+            (b"select*from t,u where t.c=u.d", joined),
+            (b"sElEcT\t*\r\nFrOm t , u\nwHeRe T . c = U . d \n", joined),
+            (
+                b"-- a join\nSELECT * -- all\n--\nFROM t, u WHERE t.c = u.d",
+                joined,
+            ),
+            (b"SELECT * FROM t, u WHERE t.c = u.d --", joined),
+            (b"SELECT * FROM t, u WHERE t.c = u.d--;", joined),
+            (b"SELECT * FROM t, u WHERE t.c = --\rx\nu.d", joined),
+            (b"SELECT * FROM t, u WHERE t.c = u.d-- \xC3\xA9\n", joined),
+            (
+                b"SELECT * FROM U, ORDER_2 WHERE u.C_1 = order_2._",
+                Some((1, 2, "C_1", "_")),
+            ),
+            (b"", None),
+            (b" \n--", None),
+            (b"SELECT", None),
+            (b"SELECT c FROM t", None),
+            (b"SELECT * FROM t WHERE t.c = t.d", None),
+            (b"SELECT * FROM t, T WHERE t.c = t.d", None),
+            (b"SELECT * FROM t, u WHERE t.c = u.d;", None),
+            (b"SELECT * FROM t, u WHERE t.c = u.d x", None),
+            (b"SELECT * FROM t, u WHERE t.c = u.d - -", None),
+            (b"SELECT * FROM t, u WHERE t.c = u.", None),
+            (b"SELECT * FROM t, u WHERE u.c = t.d", None),
+            (b"SELECT * FROM t, u WHERE t.c = t.d", None),
+            (b"SELECT * FROM t, u WHERE c = u.d", None),
+            (b"SELECT * FROM t, u WHERE t.c < u.d", None),
+            (b"SELECT * FROM t, v WHERE t.c = v.d", None),
+            (b"SELECT * FROM t, from WHERE t.c = from.d", None),
+            (b"SELECT * FROM t, u WHERE t.order = u.d", None),
+            (b"SELECT * FROM t, u WHERE t.c = u.Null", None),
+            (b"SELECT * FROM t, u WHERE t.c = u.\"d\"", None),
+            (b"SELECT * FROM t, \"u\" WHERE t.c = u.d", None),
+            (b"SELECT * FROM t, u WHERE t.c = 'd", None),
+            (b"SELECT * FROM t, u WHERE t.1c = u.d", None),
+            (b"SELECT * FROM t u WHERE t.c = u.d", None),
+            (b"SELECT *FROMt, u WHERE t.c = u.d", None),
+            (b"SELECT * FROM t, u WHERE t.c = u.\xC3\xA9", None),
+            (b"SELECT * FROM t, u WHERE t.c = u.d -- \xC3", None),
+            (b"\xEF\xBB\xBFSELECT * FROM t, u WHERE t.c = u.d", None),
+        ];
+        let alloc = rt.alloc();
+        let mut tables = Vec::new(alloc);
+        for table in TABLES {
+            tables.push(String::from_str(alloc, table)?)?;
+        }
+        for (text, expected) in cases {
+            let read = read_script(alloc, &tables, text)?;
+            let seen = read.map(|q| (q.left, q.right, q.left_column, q.right_column));
+            assert_eq!(rt; seen, expected);
+        }
+        Ok(())
+    }
+}

@@ -15,4 +15,3 @@ are_same-requires-then-are_same-clause-first c = (HasNames-from_parts (length c.
 
 pub are_same-requires-then-are_same-clause-second : goal.are_same-requires-then-are_same-clause-second
 are_same-requires-then-are_same-clause-second c = (HasNames-from_parts (length c.args.tokens.now == 14) (map token_seen c.args.tokens.now) (sym c.begins_join.ensures ∙ c.if-not-begins_join.false) (sym c.compares_columns.ensures ∙ c.if-not-compares_columns.false)).right_source
-
