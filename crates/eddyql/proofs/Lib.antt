@@ -1,0 +1,4 @@
+pub mod RecordLemmas
+pub mod IntegerLemmas
+pub mod HeadingLemmas
+pub mod FilledLemmas

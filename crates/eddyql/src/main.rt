@@ -2,6 +2,7 @@
 //! answer as CSV.
 #![tactic(auto)]
 
+mod reading;
 mod status;
 
 fn main() {}
