@@ -1,4 +1,5 @@
 pub mod RecordLemmas
+pub mod FieldLemmas
 pub mod IntegerLemmas
 pub mod HeadingLemmas
 pub mod FilledLemmas

@@ -44,7 +44,7 @@ fn is_identifier(text: &[u8]) -> bool
     }
 }
 
-// The column that a field of the heading names, None where it is no regular identifier.
+// The column that a field of the heading names, `NotATable` where it is no regular identifier.
 fn column_named(alloc: Global, field: &[u8]) -> Result<Column, ReadFault>
     ensures ok { IfOk result (λ c. c ≡ column_of field.now) }
     ensures fits { OnOk result (words.is_identifier field.now ≡ true) }

@@ -1,0 +1,50 @@
+-- A loop over the fields of a record that tests each and makes a value of it.
+use Rattle.std.proofs.Common.{◌≡◌, ℕ, zero, suc, ◌+◌, Bool, true, false, List, [], ◌∷◌, ◌++◌, length, map, drop, Option, Some, None, refl, sym, ap, ◌∙◌, subst, arith, append_assoc, add-one}
+use Rattle.std.specs.Prelude.{◌&&◌}
+use Rattle.std.specs.List.{list_all}
+use Rattle.std.proofs.lemmas.List.{append-nil}
+use Rattle.csv.specs.Records.{field_at}
+
+-- the fields from one on
+drop-field_at : (fs : List (List ℕ)) (i : ℕ) (f : List ℕ) → field_at fs i ≡ Some f → drop i fs ≡ f ∷ drop (i + 1) fs
+unfolding field_at
+drop-field_at [] i f e = absurd cc
+drop-field_at (g ∷ fs) zero f e =
+    let same : g ≡ f = cc in
+    ap (λ (h : List ℕ). h ∷ fs) same
+drop-field_at (g ∷ fs) (suc i) f e = drop-field_at fs i f e ∙ rw (add-one i, add-one (suc i)) refl
+
+-- no field is left
+drop-past : (fs : List (List ℕ)) (i : ℕ) → field_at fs i ≡ None → drop i fs ≡ []
+unfolding field_at
+drop-past [] zero e = refl
+drop-past [] (suc i) e = refl
+drop-past (g ∷ fs) zero e = absurd cc
+drop-past (g ∷ fs) (suc i) e = drop-past fs i e
+
+-- the fields before one passed the test, and these values were made of them
+pub record Passed {B : Type 0} (test : List ℕ → Bool) (make : List ℕ → B) (fs : List (List ℕ)) (i : ℕ) (made : List B) : Type 0 where
+  pub tested : list_all test fs ≡ list_all test (drop i fs)
+  pub values : made ++ map make (drop i fs) ≡ map make fs
+
+pub Passed-start : {B : Type 0} (test : List ℕ → Bool) (make : List ℕ → B) (fs : List (List ℕ)) → Passed test make fs 0 []
+Passed-start test make fs = record { tested = refl; values = refl }
+
+pub Passed-more : {B : Type 0} (test : List ℕ → Bool) (make : List ℕ → B) (fs : List (List ℕ)) (i : ℕ) (made : List B) (f : List ℕ)
+    → Passed test make fs i made → field_at fs i ≡ Some f → test f ≡ true → Passed test make fs (i + 1) (made ++ (make f ∷ []))
+Passed-more test make fs i made f p e t =
+    let here = drop-field_at fs i f e in
+    record {
+      tested = p.tested ∙ ap (list_all test) here ∙ rw t refl;
+      values = append_assoc made (make f ∷ []) (map make (drop (i + 1) fs)) ∙ ap (λ (xs : List (List ℕ)). made ++ map make xs) (sym here) ∙ p.values;
+    }
+
+pub Passed-end : {B : Type 0} (test : List ℕ → Bool) (make : List ℕ → B) (fs : List (List ℕ)) (i : ℕ) (made : List B)
+    → Passed test make fs i made → field_at fs i ≡ None → (list_all test fs ≡ true) × (made ≡ map make fs)
+Passed-end test make fs i made p e =
+    let past = drop-past fs i e in
+    (p.tested ∙ ap (list_all test) past, sym (append-nil made) ∙ ap (λ (xs : List (List ℕ)). made ++ map make xs) (sym past) ∙ p.values)
+
+pub Passed-fails : {B : Type 0} (test : List ℕ → Bool) (make : List ℕ → B) (fs : List (List ℕ)) (i : ℕ) (made : List B) (f : List ℕ)
+    → Passed test make fs i made → field_at fs i ≡ Some f → test f ≡ false → list_all test fs ≡ false
+Passed-fails test make fs i made f p e t = p.tested ∙ ap (list_all test) (drop-field_at fs i f e) ∙ rw t refl
