@@ -1,11 +1,11 @@
 -- Headings: identifiers are ASCII, and the columns of names that differ are a table's columns.
-use Rattle.std.proofs.Common.{◌≡◌, ℕ, zero, suc, ◌+◌, ◌<◌, ◌≤◌, Bool, true, false, List, [], ◌∷◌, length, map, drop, get_or, refl, sym, ap, ◌∙◌, subst, arith, inl, inr}
+use Rattle.std.proofs.Common.{◌≡◌, ℕ, zero, suc, ◌+◌, ◌-◌, ◌<◌, ◌≤◌, Bool, true, false, List, [], ◌∷◌, length, map, take, drop, get_or, refl, sym, ap, ◌∙◌, subst, arith, inl, inr}
 use Rattle.std.specs.Prelude.{◌&&◌, ◌||◌, ◌⊎◌, not, nat_eq, nat_lt, nat_le, All, IsAscii, IsUtf8}
 use Rattle.std.specs.Char.{is_ascii_alphabetic, is_ascii_digit}
 use Rattle.std.specs.List.{list_all, list_any}
 use Rattle.std.specs.Cmp.Lexicographic.{pointwise}
 use Rattle.std.proofs.lemmas.Bool.{and_parts, eq-eqb, eqb-true, leb-true, ltb-true, not-true, or_cases, or_parts, true≢false}
-use Rattle.std.proofs.lemmas.List.{drop_more, length-map}
+use Rattle.std.proofs.lemmas.List.{drop_more, take_rest, length-map}
 use Rattle.std.proofs.lemmas.List.Elements.{All-nil, All-cons}
 use Rattle.std.proofs.lemmas.Str.{IsUtf8-from_ascii}
 use Rattle.sq_value.specs.Name.{IsSameName, is_same_name, lower}
@@ -20,23 +20,20 @@ use Rattle.eddyql.specs.Words.{begins_identifier, follows_in_identifier, is_iden
 begins-ascii : (b : ℕ) → begins_identifier b ≡ true → b < 128
 begins-ascii b e = by (or_cases _ _ e)
   where
-    letter : (is_ascii_alphabetic b) ≡ true → b < 128
-    letter l = by2 (or_cases _ _ l)
-      where
-        by2 : ((nat_le 65 b && nat_le b 90) ≡ true) ⊎ ((nat_le 97 b && nat_le b 122) ≡ true) → b < 128
-        by2 (inl h) = let top = leb-true b 90 (and_parts _ _ h).1 in omega arith
-        by2 (inr h) = let top = leb-true b 122 (and_parts _ _ h).1 in omega arith
+    letter : ((nat_le 65 b && nat_le b 90) ≡ true) ⊎ ((nat_le 97 b && nat_le b 122) ≡ true) → b < 128
+    letter (inl h) = let top : b ≤ 90 = leb-true b 90 (and_parts _ _ h).1 in omega arith
+    letter (inr h) = let top : b ≤ 122 = leb-true b 122 (and_parts _ _ h).1 in omega arith
 
     by : (is_ascii_alphabetic b ≡ true) ⊎ (nat_eq b 95 ≡ true) → b < 128
-    by (inl l) = letter l
-    by (inr u) = let same = eqb-true b 95 u in omega arith
+    by (inl l) = letter (or_cases _ _ l)
+    by (inr u) = let same : b ≡ 95 = eqb-true b 95 u in omega arith
 
 follows-ascii : (b : ℕ) → follows_in_identifier b ≡ true → b < 128
 follows-ascii b e = by (or_cases _ _ e)
   where
     by : (begins_identifier b ≡ true) ⊎ (is_ascii_digit b ≡ true) → b < 128
     by (inl h) = begins-ascii b h
-    by (inr d) = let top = leb-true b 57 (and_parts _ _ d).1 in omega arith
+    by (inr d) = let top : b ≤ 57 = leb-true b 57 (and_parts _ _ d).1 in omega arith
 
 IsAscii-cons : (b : ℕ) (bs : List ℕ) → b < 128 → IsAscii bs → IsAscii (b ∷ bs)
 IsAscii-cons b bs h all zero = h
@@ -69,13 +66,22 @@ list_any-names name [] = refl
 list_any-names name (c ∷ cs) = ap (λ (b : Bool). is_same_name name c.name || b) (list_any-names name cs)
 
 -- whether the names from one column on differ, by the first of them
-pub all_differ-drop : (cs : List Column) (i : ℕ) (c : Column) → i < length cs → c ≡ get_or cs i c
+all_differ-drop : (cs : List Column) (i : ℕ) (c : Column) → i < length cs → c ≡ get_or cs i c
     → all_differ (names_of (drop i cs)) ≡ (not (list_any (λ (d : Column). is_same_name c.name d.name) (drop (i + 1) cs)) && all_differ (names_of (drop (i + 1) cs)))
 unfolding all_differ
 all_differ-drop cs i c h e =
     let here : drop i cs ≡ c ∷ drop (i + 1) cs = drop_more cs i c h ∙ ap (λ (d : Column). d ∷ drop (i + 1) cs) (sym e) in
     ap (λ (ds : List Column). all_differ (names_of ds)) here
     ∙ ap (λ (b : Bool). not b && all_differ (names_of (drop (i + 1) cs))) (sym (list_any-names c.name (drop (i + 1) cs)))
+
+-- the same by the answer for the slice behind it
+pub all_differ-step : (cs : List Column) (i : ℕ) (c : Column) (repeated : Bool) → i < length cs → c ≡ get_or cs i c
+    → repeated ≡ list_any (λ (d : Column). is_same_name c.name d.name) (take (length cs - (i + 1)) (drop (i + 1) cs))
+    → all_differ (names_of (drop i cs)) ≡ (not repeated && all_differ (names_of (drop (i + 1) cs)))
+all_differ-step cs i c repeated h e r =
+    let same : repeated ≡ list_any (λ (d : Column). is_same_name c.name d.name) (drop (i + 1) cs)
+    = r ∙ ap (list_any (λ (d : Column). is_same_name c.name d.name)) (take_rest cs (i + 1)) in
+    all_differ-drop cs i c h e ∙ ap (λ (b : Bool). not b && all_differ (names_of (drop (i + 1) cs))) (sym same)
 
 pub all_differ-nil : (cs : List Column) (i : ℕ) → drop i cs ≡ [] → all_differ (names_of (drop i cs)) ≡ true
 unfolding all_differ
@@ -110,10 +116,12 @@ IsHeading-columns fs e =
     let outer = and_parts _ _ e in
     let middle = and_parts _ _ outer.0 in
     let inner = and_parts _ _ middle.0 in
-    let same = length-map fs column_of in
+    let same : length (map column_of fs) ≡ length fs = length-map fs column_of in
+    let some : 0 < length fs = ltb-true 0 (length fs) inner.0 in
+    let few : length fs ≤ 64 = leb-true (length fs) 64 inner.1 in
     record {
-      some = omega (arith, ltb-true 0 (length fs) inner.0, same);
-      few = omega (arith, leb-true (length fs) 64 inner.1, same);
+      some = omega arith;
+      few = omega arith;
       differ = NamesDiffer-columns fs outer.1;
     }
 
