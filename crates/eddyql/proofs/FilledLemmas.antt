@@ -8,36 +8,8 @@ use Rattle.sq_value.specs.Relation.{Relation, IsRow}
 use Rattle.sq_value.specs.declared.table.Column.{Column}
 use Rattle.sq_value.specs.declared.value.Value.{Value}
 use Rattle.sq_value.specs.declared.value.ColType.TheVariants.{Integer}
-use Rattle.eddyql.specs.Reading.{AllIntegers, filled}
+use Rattle.eddyql.specs.Reading.{AllIntegers, GivesNext, filled}
 use Rattle.eddyql.specs.TableText.{column_of, integer_of, is_heading, is_integer_row, table_of_records}
-
--- a table with one more row of integers
-abbrev pub with_row : Relation → List (List ℕ) → Relation
-with_row t fields = record t { rows = t.rows ++ (map integer_of fields ∷ []) }
-
--- a record in form goes from the records to the table
-pub filled-row : (t : Relation) (f : List (List ℕ)) (rest : List (List (List ℕ))) → is_integer_row (length t.columns) f ≡ true
-    → filled t (f ∷ rest) ≡ filled (with_row t f) rest
-filled-row t f rest e =
-    let longer : length t.rows + length (f ∷ rest) ≡ length (with_row t f).rows + length rest = omega (arith, length_push t.rows (map integer_of f)) in
-    let rows : t.rows ++ map (map integer_of) (f ∷ rest) ≡ (with_row t f).rows ++ map (map integer_of) rest
-    = sym (append_assoc t.rows (map integer_of f ∷ []) (map (map integer_of) rest)) in
-    rw (e, longer, rows) refl
-
--- a record out of form gives no table
-pub filled-bad : (t : Relation) (f : List (List ℕ)) (rest : List (List (List ℕ))) → is_integer_row (length t.columns) f ≡ false
-    → filled t (f ∷ rest) ≡ None
-filled-bad t f rest e = rw (e, and_right (nat_le (length t.rows + length (f ∷ rest)) 1000000) false refl) refl
-
--- nor does a record past the last
-pub filled-full : (t : Relation) (f : List (List ℕ)) (rest : List (List (List ℕ))) → 1000000 ≤ length t.rows → filled t (f ∷ rest) ≡ None
-filled-full t f rest h = rw (lt-leb (length t.rows + length (f ∷ rest)) 1000000 (omega arith)) refl
-
--- where no record is left, the table is full
-pub filled-end : (t : Relation) → length t.rows ≤ 1000000 → filled t [] ≡ Some t
-filled-end t h =
-    let few : nat_le (length t.rows + length {A = List (List ℕ)} []) 1000000 ≡ true = le-leb _ 1000000 (omega arith) in
-    rw (few, append-nil t.rows) refl
 
 -- values of integers are a row of columns of integers
 IsRow-suc : (c : Column) (cs : List Column) (f : List ℕ) (fs : List (List ℕ)) → c.kind ≡ Integer → IsRow cs (map integer_of fs)
@@ -87,29 +59,48 @@ not_made : (b : Bool) (x : Relation) → ◌≡◌ {A = Option Relation} (cond b
 not_made true x e = absurd cc
 not_made false x e = refl
 
--- a table that a file's records fill is the file's, if it has a row
-pub table_of_records-filled : (heading : List (List ℕ)) (rows : List (List (List ℕ))) (t : Relation) → is_heading heading ≡ true
-    → filled (empty_table heading) rows ≡ Some t → 0 < length t.rows → table_of_records (heading ∷ rows) ≡ Some t
-table_of_records-filled heading rows t e f h =
-    let m = made (fit heading rows) (table_under heading rows) t (sym (filled-empty heading rows) ∙ f) in
-    let long : length (map (map integer_of) rows) ≡ length t.rows = ap (λ (r : Relation). length r.rows) m.1 in
-    let some : nat_lt 0 (length rows) ≡ true = lt-ltb 0 (length rows) (omega (arith, length-map rows (map integer_of))) in
-    table_of_records-some heading rows e ∙ rw (some, m.0) (ap (λ (r : Relation). Some r) m.1)
+-- a heading in form was read, more records are left, and the table has its columns and no rows
+pub record IsBegun (rows : List (List (List ℕ))) (heading : List (List ℕ)) (more : List (List (List ℕ))) (table : Relation) : Type 0 where
+  pub rows_are : rows ≡ heading ∷ more
+  pub form : is_heading heading ≡ true
+  pub table_is : table ≡ empty_table heading
 
-pub table_of_records-empty : (heading : List (List ℕ)) (rows : List (List (List ℕ))) (t : Relation) → is_heading heading ≡ true
-    → filled (empty_table heading) rows ≡ Some t → length t.rows ≡ 0 → table_of_records (heading ∷ rows) ≡ None
-table_of_records-empty heading rows t e f h =
-    let m = made (fit heading rows) (table_under heading rows) t (sym (filled-empty heading rows) ∙ f) in
-    let long : length (map (map integer_of) rows) ≡ length t.rows = ap (λ (r : Relation). length r.rows) m.1 in
-    let none : nat_lt 0 (length rows) ≡ false = le-ltb 0 (length rows) (omega (arith, length-map rows (map integer_of))) in
-    table_of_records-some heading rows e ∙ rw none refl
+pub IsBegun-read : (rows : List (List (List ℕ))) (found : Bool) (heading : List (List ℕ)) (more : List (List (List ℕ))) (columns : List Column) (table : Relation)
+    → GivesNext rows found heading more → found ≡ true → is_heading heading ≡ true → columns ≡ map column_of heading
+    → table ≡ record { columns = columns; rows = [] } → IsBegun rows heading more table
+IsBegun-read rows true heading more columns table g e form made new =
+    record { rows_are = g; form = form; table_is = new ∙ ap (λ (cs : List Column). record { columns = cs; rows = [] }) made }
+IsBegun-read rows false heading more columns table g e form made new = absurd cc
 
-pub table_of_records-none : (heading : List (List ℕ)) (rows : List (List (List ℕ))) → is_heading heading ≡ true
-    → filled (empty_table heading) rows ≡ None → table_of_records (heading ∷ rows) ≡ None
-table_of_records-none heading rows e f =
-    let m = not_made (fit heading rows) (table_under heading rows) (sym (filled-empty heading rows) ∙ f) in
-    table_of_records-some heading rows e ∙ rw (m, and_right (nat_lt 0 (length rows)) false refl) refl
-
-pub table_of_records-bad : (heading : List (List ℕ)) (rows : List (List (List ℕ))) → is_heading heading ≡ false → table_of_records (heading ∷ rows) ≡ None
+-- where no record is there, or the first is no heading, there is no table
+pub table_of_records-no_heading : (rows : List (List (List ℕ))) (found : Bool) (fields : List (List ℕ)) (more : List (List (List ℕ)))
+    → GivesNext rows found fields more → (found ≡ true → is_heading fields ≡ false) → table_of_records rows ≡ None
 unfolding table_of_records
-table_of_records-bad heading rows e = rw e refl
+table_of_records-no_heading rows true fields more g h = ap table_of_records g ∙ rw (h refl) refl
+table_of_records-no_heading rows false fields more g h = ap table_of_records g
+
+-- a table that a file's records fill is the file's, if it has a row
+pub table_of_records-filled : (rows : List (List (List ℕ))) (heading : List (List ℕ)) (more : List (List (List ℕ))) (table t : Relation)
+    → IsBegun rows heading more table → filled table more ≡ Some t → 0 < length t.rows → table_of_records rows ≡ Some t
+table_of_records-filled rows heading more table t b f h =
+    let full : filled (empty_table heading) more ≡ Some t = ap (λ (u : Relation). filled u more) (sym b.table_is) ∙ f in
+    let m = made (fit heading more) (table_under heading more) t (sym (filled-empty heading more) ∙ full) in
+    let long : length (map (map integer_of) more) ≡ length t.rows = ap (λ (r : Relation). length r.rows) m.1 in
+    let some : nat_lt 0 (length more) ≡ true = lt-ltb 0 (length more) (omega (arith, length-map more (map integer_of))) in
+    ap table_of_records b.rows_are ∙ table_of_records-some heading more b.form ∙ rw (some, m.0) (ap (λ (r : Relation). Some r) m.1)
+
+pub table_of_records-empty : (rows : List (List (List ℕ))) (heading : List (List ℕ)) (more : List (List (List ℕ))) (table t : Relation)
+    → IsBegun rows heading more table → filled table more ≡ Some t → length t.rows ≡ 0 → table_of_records rows ≡ None
+table_of_records-empty rows heading more table t b f h =
+    let full : filled (empty_table heading) more ≡ Some t = ap (λ (u : Relation). filled u more) (sym b.table_is) ∙ f in
+    let m = made (fit heading more) (table_under heading more) t (sym (filled-empty heading more) ∙ full) in
+    let long : length (map (map integer_of) more) ≡ length t.rows = ap (λ (r : Relation). length r.rows) m.1 in
+    let none : nat_lt 0 (length more) ≡ false = le-ltb 0 (length more) (omega (arith, length-map more (map integer_of))) in
+    ap table_of_records b.rows_are ∙ table_of_records-some heading more b.form ∙ rw none refl
+
+pub table_of_records-unfit : (rows : List (List (List ℕ))) (heading : List (List ℕ)) (more : List (List (List ℕ))) (table : Relation)
+    → IsBegun rows heading more table → filled table more ≡ None → table_of_records rows ≡ None
+table_of_records-unfit rows heading more table b f =
+    let none : filled (empty_table heading) more ≡ None = ap (λ (u : Relation). filled u more) (sym b.table_is) ∙ f in
+    let m = not_made (fit heading more) (table_under heading more) (sym (filled-empty heading more) ∙ none) in
+    ap table_of_records b.rows_are ∙ table_of_records-some heading more b.form ∙ rw (m, and_right (nat_lt 0 (length more)) false refl) refl

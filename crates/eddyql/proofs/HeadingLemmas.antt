@@ -4,7 +4,7 @@ use Rattle.std.specs.Prelude.{◌&&◌, ◌||◌, ◌⊎◌, not, nat_eq, nat_lt
 use Rattle.std.specs.Char.{is_ascii_alphabetic, is_ascii_digit}
 use Rattle.std.specs.List.{list_all, list_any}
 use Rattle.std.specs.Cmp.Lexicographic.{pointwise}
-use Rattle.std.proofs.lemmas.Bool.{and_parts, eq-eqb, eqb-true, leb-true, ltb-true, not-true, or_cases, or_parts, true≢false}
+use Rattle.std.proofs.lemmas.Bool.{and_parts, eq-eqb, eqb-false, eqb-true, le-leb, lt-ltb, leb-true, ltb-true, not-true, or_cases, or_parts, true≢false}
 use Rattle.std.proofs.lemmas.List.{drop_more, take_rest, length-map}
 use Rattle.std.proofs.lemmas.List.Elements.{All-nil, All-cons}
 use Rattle.std.proofs.lemmas.Str.{IsUtf8-from_ascii}
@@ -21,19 +21,19 @@ begins-ascii : (b : ℕ) → begins_identifier b ≡ true → b < 128
 begins-ascii b e = by (or_cases _ _ e)
   where
     letter : ((nat_le 65 b && nat_le b 90) ≡ true) ⊎ ((nat_le 97 b && nat_le b 122) ≡ true) → b < 128
-    letter (inl h) = let top : b ≤ 90 = leb-true b 90 (and_parts _ _ h).1 in omega arith
-    letter (inr h) = let top : b ≤ 122 = leb-true b 122 (and_parts _ _ h).1 in omega arith
+    letter (inl h) = omega (arith, leb-true b 90 (and_parts (nat_le 65 b) (nat_le b 90) h).1)
+    letter (inr h) = omega (arith, leb-true b 122 (and_parts (nat_le 97 b) (nat_le b 122) h).1)
 
     by : (is_ascii_alphabetic b ≡ true) ⊎ (nat_eq b 95 ≡ true) → b < 128
     by (inl l) = letter (or_cases _ _ l)
-    by (inr u) = let same : b ≡ 95 = eqb-true b 95 u in omega arith
+    by (inr u) = omega (arith, eqb-true b 95 u)
 
 follows-ascii : (b : ℕ) → follows_in_identifier b ≡ true → b < 128
 follows-ascii b e = by (or_cases _ _ e)
   where
     by : (begins_identifier b ≡ true) ⊎ (is_ascii_digit b ≡ true) → b < 128
     by (inl h) = begins-ascii b h
-    by (inr d) = let top : b ≤ 57 = leb-true b 57 (and_parts _ _ d).1 in omega arith
+    by (inr d) = omega (arith, leb-true b 57 (and_parts (nat_le 48 b) (nat_le b 57) d).1)
 
 IsAscii-cons : (b : ℕ) (bs : List ℕ) → b < 128 → IsAscii bs → IsAscii (b ∷ bs)
 IsAscii-cons b bs h all zero = h
@@ -129,3 +129,12 @@ IsHeading-columns fs e =
 pub AllIntegers-columns : (fs : List (List ℕ)) → AllIntegers (map column_of fs)
 AllIntegers-columns [] = All-nil _
 AllIntegers-columns (f ∷ fs) = All-cons (λ (c : Column). c.kind ≡ Integer) (column_of f) (map column_of fs) refl (AllIntegers-columns fs)
+
+-- where a record has 1 to 64 identifiers, it is a heading if their columns' names differ
+pub is_heading-differ : (fs : List (List ℕ)) (items columns : List Column) (differ : Bool) → nat_eq (length fs) 0 ≡ false → length fs ≤ 64
+    → list_all is_identifier fs ≡ true → items ≡ map column_of fs → columns ≡ items → differ ≡ all_differ (names_of columns) → is_heading fs ≡ differ
+is_heading-differ fs items columns differ some few all made same d =
+    let positive : nat_lt 0 (length fs) ≡ true = lt-ltb 0 (length fs) (omega (arith, eqb-false (length fs) 0 some)) in
+    let short : nat_le (length fs) 64 ≡ true = le-leb (length fs) 64 few in
+    let names : all_differ (names_of columns) ≡ all_differ fs = ap (λ (cs : List Column). all_differ (names_of cs)) (same ∙ made) ∙ ap all_differ (names_of-columns fs) in
+    rw (positive, short, all) (sym (d ∙ names))
