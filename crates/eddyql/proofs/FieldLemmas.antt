@@ -1,6 +1,5 @@
 -- A loop over the fields of a record that tests each and makes a value of it.
-use Rattle.std.proofs.Common.{◌≡◌, ℕ, zero, suc, ◌+◌, Bool, true, false, List, [], ◌∷◌, ◌++◌, length, map, drop, Option, Some, None, refl, sym, ap, ◌∙◌, subst, arith, append_assoc, add-one}
-use Rattle.std.specs.Prelude.{◌&&◌}
+use Rattle.std.proofs.Common.{◌≡◌, ℕ, zero, suc, ◌+◌, Bool, true, false, List, [], ◌∷◌, ◌++◌, map, drop, Option, Some, None, refl, sym, ap, ◌∙◌, append_assoc, add-one}
 use Rattle.std.specs.List.{list_all}
 use Rattle.std.proofs.lemmas.List.{append-nil}
 use Rattle.csv.specs.Records.{Row, field_at, fields_of}
@@ -42,7 +41,7 @@ Passed-more test make row seen i j made more f value p same e next t v push =
     rw (push, v, next) record {
       tested = p.tested ∙ ap (list_all test) here ∙ rw t refl;
       values = append_assoc made (make f ∷ []) (map make (drop (i + 1) (fields_of row)))
-      ∙ ap (λ (xs : List (List ℕ)). made ++ map make xs) (sym here) ∙ p.values;
+          ∙ ap (λ (xs : List (List ℕ)). made ++ map make xs) (sym here) ∙ p.values;
     }
 
 pub Passed-end : {B : Type 0} (test : List ℕ → Bool) (make : List ℕ → B) (row seen : Row) (i : ℕ) (made : List B)

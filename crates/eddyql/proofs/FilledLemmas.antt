@@ -1,12 +1,11 @@
 -- A table that its file's records fill, a row at a time.
-use Rattle.std.proofs.Common.{◌≡◌, ℕ, zero, suc, ◌+◌, ◌<◌, ◌≤◌, Bool, true, false, List, [], ◌∷◌, ◌++◌, length, map, Option, Some, None, cond, refl, sym, ap, ◌∙◌, subst, arith, append_assoc, zero-add}
-use Rattle.std.specs.Prelude.{◌&&◌, nat_lt, nat_le, All}
+use Rattle.std.proofs.Common.{◌≡◌, ℕ, suc, ◌<◌, Bool, true, false, List, [], ◌∷◌, length, map, Option, Some, None, cond, refl, sym, ap, ◌∙◌, arith, zero-add}
+use Rattle.std.specs.Prelude.{◌&&◌, nat_lt, nat_le}
 use Rattle.std.specs.List.{list_all}
-use Rattle.std.proofs.lemmas.Bool.{and_from, and_right, le-leb, le-ltb, lt-leb, lt-ltb}
-use Rattle.std.proofs.lemmas.List.{append-nil, length-append, length_push, length-map}
+use Rattle.std.proofs.lemmas.Bool.{and_right, le-ltb, lt-ltb}
+use Rattle.std.proofs.lemmas.List.{length-map}
 use Rattle.sq_value.specs.Relation.{Relation, IsRow}
 use Rattle.sq_value.specs.declared.table.Column.{Column}
-use Rattle.sq_value.specs.declared.value.Value.{Value}
 use Rattle.sq_value.specs.declared.value.ColType.TheVariants.{Integer}
 use Rattle.eddyql.specs.Reading.{AllIntegers, GivesNext, filled}
 use Rattle.eddyql.specs.TableText.{column_of, integer_of, is_heading, is_integer_row, table_of_records}

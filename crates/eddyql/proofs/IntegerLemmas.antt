@@ -1,16 +1,15 @@
 -- Canonical numerals are ASCII, and the numbers that they write are those that `read_int` reads.
-use Rattle.std.proofs.Common.{◌≡◌, ◌≢◌, ℕ, zero, suc, ◌+◌, ◌<◌, ◌≤◌, Bool, true, false, List, [], ◌∷◌, length, Result, Ok, Err, ℤ, cond, refl, sym, ap, ◌∙◌, subst, arith, inl, inr, w64}
-use Rattle.std.specs.Prelude.{◌&&◌, ◌||◌, ◌==◌, ◌⊎◌, not, nat_lt, slice_index, IsAscii, IsUtf8, FitsSigned}
+use Rattle.std.proofs.Common.{◌≡◌, ℕ, zero, suc, ◌<◌, ◌≤◌, Bool, true, false, List, [], ◌∷◌, length, Result, Ok, Err, ℤ, cond, refl, sym, ap, ◌∙◌, subst, arith, inl, inr, w64}
+use Rattle.std.specs.Prelude.{◌&&◌, ◌==◌, ◌⊎◌, not, nat_lt, slice_index, IsAscii, IsUtf8, FitsSigned}
 use Rattle.std.specs.Char.{is_ascii_digit}
-use Rattle.std.specs.Str.Parse.{signed_digits_value, starts_with_minus, without_leading_sign}
-use Rattle.std.proofs.lemmas.Bool.{and_parts, and_from, eqb-true, ne_eqb, leb-true, lt-ltb, ltb-true, not-true, or_cases, false≢true}
+use Rattle.std.specs.Str.Parse.{signed_digits_value}
+use Rattle.std.proofs.lemmas.Bool.{and_parts, and_from, eqb-true, ne_eqb, leb-true, lt-ltb, ltb-true, or_cases}
 use Rattle.std.proofs.lemmas.Str.{IsUtf8-from_ascii}
 use Rattle.std.proofs.lemmas.Int.{to_z-of_z}
 use mir.Val.{to_z, of_z}
 use Rattle.sq_value.specs.Numeral.{all_digits, is_i64, is_numeral, number_read}
 use Rattle.sq_value.specs.declared.integer.IntFault.{IntFault}
-use Rattle.sq_value.specs.declared.integer.IntFault.TheVariants.{NotANumber, OutOfRange}
-use Rattle.sq_value.specs.declared.value.Value.{Value}
+use Rattle.sq_value.specs.declared.integer.IntFault.TheVariants.{OutOfRange}
 use Rattle.sq_value.specs.declared.value.Value.TheVariants.{Int}
 use Rattle.sq_value.proofs.NumeralLemmas.{fits_from_i64}
 use Rattle.eddyql.specs.TableText.{integer_of, is_canonical, is_canonical_numeral, without_minus}

@@ -79,9 +79,7 @@ fn columns_named(alloc: Global, row: &ByteRecord) -> Result<Vec<Column>, ReadFau
 fn is_repeated(column: &Column, others: &[Column]) -> bool
     ensures { result ≡ list_any (λ (c : Column). is_same_name column.now.name c.name) others.now }
 {
-    others
-        .iter()
-        .any(|other| same_name(column.name.as_str(), other.name.as_str()))
+    others.iter().any(|other| same_name(column.name.as_str(), other.name.as_str()))
 }
 
 fn names_differ(columns: &[Column]) -> bool

@@ -1,4 +1,4 @@
-use Rattle.std.proofs.Common.{◌≡◌, ◌∙◌, List, ℕ, Option, None, Some, Err, sym, ap, subst, arith}
+use Rattle.std.proofs.Common.{◌≡◌, ◌∙◌, Option, None, Some, Err, sym, ap, subst}
 use Rattle.std.specs.Prelude.{IfOk}
 use Rattle.sq_value.specs.Relation.{Relation}
 use Rattle.eddyql.specs.Reading.{records_left}
@@ -11,8 +11,8 @@ use Rattle.eddyql.proofs.reading.read_table.Goals.{then-begins_with_mark-via-the
 pub returns-then-begins_with_mark-clause-form : goal.returns-then-begins_with_mark-clause-form
 returns-then-begins_with_mark-clause-form c = λ e.
     elim c.then-begins_with_mark.branch [
-      then-begins_with_mark-via-then-begins_with_mark w ↦ early_table-mark c.args.bytes.now (sym c.begins_with_mark.ensures ∙ w.if-begins_with_mark.true)
-    | then-begins_with_mark-via-else-begins_with_mark+then-bytes-gt-MOST_BYTES w ↦ early_table-long c.args.bytes.now w.if-bytes-gt-MOST_BYTES.true
+      | then-begins_with_mark-via-then-begins_with_mark w ↦ early_table-mark c.args.bytes.now (sym c.begins_with_mark.ensures ∙ w.if-begins_with_mark.true)
+      | then-begins_with_mark-via-else-begins_with_mark+then-bytes-gt-MOST_BYTES w ↦ early_table-long c.args.bytes.now w.if-bytes-gt-MOST_BYTES.true
     ]
 
 table_is : (c : goal.Joined-reader) → table_of_records (records_left c.from_reader-reader.result) ≡ early_table c.args.bytes.now

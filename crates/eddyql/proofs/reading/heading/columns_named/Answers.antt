@@ -17,9 +17,9 @@ pub loop-field-preserved : goal.loop-field-preserved
 loop-field-preserved c = record {
   same = ap (λ (b : Bor Row). b.now) c.in-Some.ensures.steps.0 ∙ c.loop-field.invariant.same;
   passed = Passed-more is_identifier column_of c.args.row.now c.loop-field.field-iterator.row.now c.loop-field.field-iterator.at c.next.new.self.at
-  c.loop-field.columns.items c.push.new.self.items c.in-Some.field.now c.in_ok-column_named.field-0
-  c.loop-field.invariant.passed c.loop-field.invariant.same c.in-Some.ensures.steps.1 c.in-Some.ensures.steps.2
-  c.in_ok-column_named.ensures.fits c.in_ok-column_named.ensures.ok c.in_ok-push.ensures.items;
+      c.loop-field.columns.items c.push.new.self.items c.in-Some.field.now c.in_ok-column_named.field-0
+      c.loop-field.invariant.passed c.loop-field.invariant.same c.in-Some.ensures.steps.1 c.in-Some.ensures.steps.2
+      c.in_ok-column_named.ensures.fits c.in_ok-column_named.ensures.ok c.in_ok-push.ensures.items;
 }
 
 pub returns-clause-ok : goal.returns-clause-ok

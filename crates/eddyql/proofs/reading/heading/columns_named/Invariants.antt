@@ -8,5 +8,5 @@ use Rattle.eddyql.proofs.reading.heading.columns_named.Given as goal
 abbrev pub invariant-loop-field : goal.invariant-loop-field
 invariant-loop-field l = record {
   same : l.field-iterator.row.now ≡ l.fn.row;
-  passed : Passed is_identifier column_of (fields_of l.fn.row) l.field-iterator.at l.columns.items
+  passed : Passed is_identifier column_of (fields_of l.fn.row) l.field-iterator.at l.columns.items;
 }

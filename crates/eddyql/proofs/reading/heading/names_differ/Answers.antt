@@ -1,4 +1,4 @@
-use Rattle.std.proofs.Common.{◌≡◌, refl, sym, ◌∙◌, arith}
+use Rattle.std.proofs.Common.{refl, sym, ◌∙◌, arith}
 use Rattle.std.proofs.lemmas.List.{drop_all}
 use Rattle.eddyql.proofs.HeadingLemmas.{all_differ-step, all_differ-nil}
 use Rattle.eddyql.proofs.reading.heading.names_differ.Goals as goal

@@ -1,8 +1,5 @@
-use Rattle.std.proofs.Common.{◌≡◌, ◌∙◌, Bool, sym, ap, arith}
-use Rattle.std.specs.Prelude.{not}
-use Rattle.std.proofs.lemmas.Bool.{not-true, not-false}
+use Rattle.std.proofs.Common.{◌∙◌, sym, arith}
 use Rattle.csv.specs.Records.{fields_of}
-use Rattle.eddyql.specs.TableText.{is_heading}
 use Rattle.eddyql.proofs.HeadingLemmas.{is_heading-differ}
 use Rattle.eddyql.proofs.reading.heading.read_heading.Goals as goal
 

@@ -1,6 +1,4 @@
-use Rattle.std.proofs.Common.{◌≡◌, sym, ◌∙◌, ap, true}
-use Rattle.std.proofs.lemmas.Bool.{not-false}
-use Rattle.eddyql.specs.TableText.{is_canonical_numeral}
+use Rattle.std.proofs.Common.{sym, ◌∙◌}
 use Rattle.eddyql.proofs.IntegerLemmas.{IsUtf8-canonical, canonical-Ok, canonical-Err}
 use Rattle.eddyql.proofs.reading.integers.integer_value.Goals as goal
 

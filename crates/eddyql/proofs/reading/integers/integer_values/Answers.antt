@@ -13,9 +13,9 @@ pub loop-field-preserved : goal.loop-field-preserved
 loop-field-preserved c = record {
   same = ap (λ (b : Bor Row). b.now) c.in-Some.ensures.steps.0 ∙ c.loop-field.invariant.same;
   passed = Passed-more is_canonical integer_of c.args.row.now c.loop-field.field-iterator.row.now c.loop-field.field-iterator.at c.next.new.self.at
-  c.loop-field.values.items c.push.new.self.items c.in-Some.field.now c.in-Some-integer_value.value
-  c.loop-field.invariant.passed c.loop-field.invariant.same c.in-Some.ensures.steps.1 c.in-Some.ensures.steps.2
-  c.in-Some-integer_value.ensures.some.0 c.in-Some-integer_value.ensures.some.1 c.in_ok-push.ensures.items;
+      c.loop-field.values.items c.push.new.self.items c.in-Some.field.now c.in-Some-integer_value.value
+      c.loop-field.invariant.passed c.loop-field.invariant.same c.in-Some.ensures.steps.1 c.in-Some.ensures.steps.2
+      c.in-Some-integer_value.ensures.some.0 c.in-Some-integer_value.ensures.some.1 c.in_ok-push.ensures.items;
 }
 
 pub returns-clause-values : goal.returns-clause-values

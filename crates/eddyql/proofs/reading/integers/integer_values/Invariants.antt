@@ -7,5 +7,5 @@ use Rattle.eddyql.proofs.reading.integers.integer_values.Given as goal
 abbrev pub invariant-loop-field : goal.invariant-loop-field
 invariant-loop-field l = record {
   same : l.field-iterator.row.now ≡ l.fn.row;
-  passed : Passed is_canonical integer_of (fields_of l.fn.row) l.field-iterator.at l.values.items
+  passed : Passed is_canonical integer_of (fields_of l.fn.row) l.field-iterator.at l.values.items;
 }

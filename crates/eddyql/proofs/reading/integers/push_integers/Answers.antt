@@ -1,7 +1,6 @@
-use Rattle.std.proofs.Common.{◌≡◌, length, sym, ◌∙◌, arith, ap, subst, List}
+use Rattle.std.proofs.Common.{◌≡◌, length, sym, arith, ap, subst}
 use Rattle.csv.specs.Records.{fields_of}
 use Rattle.sq_value.specs.Relation.{IsRow}
-use Rattle.sq_value.specs.declared.value.Value.{Value}
 use Rattle.eddyql.proofs.FilledLemmas.{IsRow-integers}
 use Rattle.eddyql.proofs.reading.integers.push_integers.Goals as goal
 

@@ -7,5 +7,5 @@ invariant-loop l = record {
   plain : IsPlain l.reader;
   integers : AllIntegers l.table.columns;
   count : length l.table.rows ≡ l.counter;
-  same : filled l.table (records_left l.reader) ≡ filled l.fn.table (records_left l.fn.reader)
+  same : filled l.table (records_left l.reader) ≡ filled l.fn.table (records_left l.fn.reader);
 }
