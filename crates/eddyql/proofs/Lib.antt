@@ -4,3 +4,10 @@ pub mod ScriptLemmas
 pub mod WordsLemmas
 pub mod OutcomeLemmas
 pub mod PlanLemmas
+pub mod RecordLemmas
+pub mod FieldLemmas
+pub mod IntegerLemmas
+pub mod HeadingLemmas
+pub mod FilledLemmas
+pub mod EarlyLemmas
+pub mod ExitLemmas

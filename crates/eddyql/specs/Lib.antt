@@ -10,3 +10,4 @@ pub mod Outcome
 pub mod Refusal
 pub mod Seen
 pub mod Loaded
+pub mod Reading

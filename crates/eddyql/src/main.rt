@@ -8,6 +8,7 @@ mod loading;
 mod plan;
 mod reading;
 mod script;
+mod reading;
 mod status;
 mod words;
 mod writing;
