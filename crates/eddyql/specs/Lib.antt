@@ -4,3 +4,4 @@ pub mod Script
 pub mod TableText
 pub mod Join
 pub mod Binding
+pub mod Log

@@ -2,6 +2,7 @@
 //! answer as CSV.
 #![tactic(auto)]
 
+mod join;
 mod status;
 
 fn main() {}
