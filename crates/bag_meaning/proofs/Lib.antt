@@ -1,3 +1,4 @@
 pub mod ListLemmas
+pub mod RangeLemmas
 pub mod ProductLemmas
 pub mod CreditLemmas

@@ -1,2 +1,5 @@
 pub mod JoinLemmas
 pub mod ProbeLemmas
+pub mod LogLemmas
+pub mod TurnLemmas
+pub mod StepLemmas
