@@ -3,3 +3,4 @@ pub mod ProbeLemmas
 pub mod LogLemmas
 pub mod TurnLemmas
 pub mod StepLemmas
+pub mod OrderLemmas
