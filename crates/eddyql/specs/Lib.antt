@@ -12,3 +12,4 @@ pub mod Loaded
 pub mod Reading
 pub mod Runnable
 pub mod Run
+pub mod Log

@@ -8,6 +8,7 @@ mod loading;
 mod plan;
 mod preparing;
 mod reading;
+mod run;
 mod script;
 mod status;
 mod words;
