@@ -2,3 +2,4 @@ pub mod ListLemmas
 pub mod ProductLemmas
 pub mod CreditLemmas
 pub mod ProductRange
+mod WorkedRows
