@@ -4,9 +4,10 @@ ghost use Rattle.sq_value.specs.Comparison.{Comparable};
 
 use crate::Truth::{False, True, Unknown};
 use crate::{
-    Cmp, ColType, Column, IntFault, Kinds, NoPredicates, Predicates, SqText, Table, Tables, Truth,
-    Value, compare, read_int, same_name,
+    Cmp, ColType, Column, IntFault, Kinds, Memory, NoPredicates, Predicates, SqText, Table, Tables,
+    Truth, Value, compare, read_int, same_name,
 };
+use std::alloc::Global;
 use std::test::Fail;
 
 /// The truths of x = y, x <> y, x < y, x <= y, x > y and x >= y.
@@ -23,36 +24,53 @@ fn truths(x: &Value, y: &Value) -> [Truth; 6]
     ]
 }
 
+/// The same of two texts.
+fn truths_of_texts(alloc: Global, x: &str, y: &str) -> Result<[Truth; 6], Memory> {
+    let x = Value::Text(SqText::of(alloc, x)?);
+    let y = Value::Text(SqText::of(alloc, y)?);
+    Ok(truths(&x, &y))
+}
+
+const LESS: [Truth; 6] = [False, True, True, True, False, False];
+
+const EQUAL: [Truth; 6] = [True, False, False, True, False, True];
+
+const GREATER: [Truth; 6] = [False, True, False, False, True, True];
+
 #[test]
-fn values_compare(rt: HostRuntime) -> Result<(), Fail> {
-    let less = [False, True, True, True, False, False];
-    let equal = [True, False, False, True, False, True];
-    let greater = [False, True, False, False, True, True];
-    let null = Value::Null;
-    let two = Value::Int(2);
-    let ten = Value::Int(10);
-    let least = Value::Int(i64::MIN);
-    assert_eq!(rt; truths(&two, &ten), less);
-    assert_eq!(rt; truths(&ten, &ten), equal);
-    assert_eq!(rt; truths(&two, &least), greater);
-    assert_eq!(rt; truths(&null, &two), [Unknown; 6]);
-    assert_eq!(rt; truths(&two, &null), [Unknown; 6]);
-    assert_eq!(rt; truths(&null, &null), [Unknown; 6]);
-    // texts by their bytes, so that capitals come first, and without padding
-    let empty = Value::Text(SqText::of(rt.alloc(), "")?);
-    let capital = Value::Text(SqText::of(rt.alloc(), "A")?);
-    let a = Value::Text(SqText::of(rt.alloc(), "a")?);
-    let padded = Value::Text(SqText::of(rt.alloc(), "a ")?);
-    let b = Value::Text(SqText::of(rt.alloc(), "b")?);
-    let accent = Value::Text(SqText::of(rt.alloc(), "é")?);
-    assert_eq!(rt; truths(&a, &b), less);
-    assert_eq!(rt; truths(&capital, &a), less);
-    assert_eq!(rt; truths(&a, &padded), less);
-    assert_eq!(rt; truths(&empty, &capital), less);
-    assert_eq!(rt; truths(&accent, &b), greater);
-    assert_eq!(rt; truths(&a, &a), equal);
-    assert_eq!(rt; truths(&a, &null), [Unknown; 6]);
-    assert_eq!(rt; truths(&null, &a), [Unknown; 6]);
+fn integers_and_nulls_compare(rt: HostRuntime) {
+    let cases = [(2, 10, LESS), (10, 10, EQUAL), (2, i64::MIN, GREATER)];
+    for (x, y, wanted) in cases {
+        assert_eq!(rt;
+            truths(&Value::Int(x), &Value::Int(y)),
+            wanted,
+            "of {x} and {y}"
+        );
+    }
+    assert_eq!(rt; truths(&Value::Null, &Value::Int(2)), [Unknown; 6]);
+    assert_eq!(rt; truths(&Value::Int(2), &Value::Null), [Unknown; 6]);
+    assert_eq!(rt; truths(&Value::Null, &Value::Null), [Unknown; 6]);
+}
+
+#[test]
+fn texts_compare_by_bytes(rt: HostRuntime) -> Result<(), Fail> {
+    let cases = [
+        ("a", "b", LESS),
+        ("A", "a", LESS),
+        ("Z", "a", LESS),
+        ("a", "a ", LESS),
+        ("", "A", LESS),
+        ("é", "z", GREATER),
+        ("a", "a", EQUAL),
+        ("", "", EQUAL),
+    ];
+    for (x, y, wanted) in cases {
+        assert_eq!(rt;
+            truths_of_texts(rt.alloc(), x, y)?,
+            wanted,
+            "of {x} and {y}"
+        );
+    }
     Ok(())
 }
 
