@@ -4,3 +4,4 @@ pub mod ProductLemmas
 pub mod CreditLemmas
 pub mod ProductRange
 pub mod RisingLemmas
+mod WorkedRows
