@@ -1,5 +1,7 @@
 pub mod ListLemmas
+pub mod RangeLemmas
 pub mod ProductLemmas
 pub mod CreditLemmas
 pub mod ProductRange
+pub mod RisingLemmas
 mod WorkedRows

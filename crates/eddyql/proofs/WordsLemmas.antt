@@ -1,17 +1,16 @@
 -- What a command's words are, and what the tests of them say.
-use Rattle.std.proofs.Common.{◌≡◌, ℕ, zero, suc, ◌≤◌, ◌<◌, Bool, true, false, ◌&&◌, cond, eqb, ltb, leb, ◌⊎◌, inl, inr, List, [], ◌∷◌, length, take, drop, get_or, ◌-◌, length-drop, Option, Some, None, refl, sym, ap, subst, ◌∙◌, arith}
+use Rattle.std.proofs.Common.{◌≡◌, ℕ, suc, ◌≤◌, ◌<◌, Bool, true, false, ◌&&◌, cond, ltb, leb, ◌⊎◌, inl, inr, List, [], ◌∷◌, length, take, drop, get_or, ◌-◌, length-drop, Option, Some, None, refl, sym, ap, subst, ◌∙◌, arith}
 use Rattle.std.specs.Prelude.{◌||◌, not, map, option_map}
 use Rattle.std.specs.Option.{is_some, option_and_then}
 use Rattle.std.specs.List.{list_all, list_any}
-use Rattle.std.proofs.lemmas.Bool.{false≢true, ltb-true, leb-true, lt-ltb, le-leb, lt-leb}
-use Rattle.std.proofs.lemmas.Bool.Decides.{nat_tests}
+use Rattle.std.proofs.lemmas.Bool.{ltb-true, leb-true, lt-ltb, le-leb, lt-leb}
 use Rattle.std.proofs.lemmas.List.{take_all, length-map}
 use Rattle.sq_value.specs.Name.{is_same_name}
 use Rattle.eddyql.specs.Words.{TableWord, Command, is_table_word, table_of_word, tables_of_words, is_named, names_differ, checked_tables, command}
 
--- what a slice's pattern takes behind the first element
-pub behind_first : {X : Type 0} (xs : List X) → take (length xs - 1) (drop 1 xs) ≡ drop 1 xs
-behind_first xs = take_all (length xs - 1) (drop 1 xs) (omega (arith, length-drop 1 xs))
+-- what a slice has from a place on
+pub from_place : {X : Type 0} (n : ℕ) (xs : List X) → take (length xs - n) (drop n xs) ≡ drop n xs
+from_place n xs = take_all (length xs - n) (drop n xs) (omega (arith, length-drop n xs))
 
 -- whether an element passes, after a function of each
 pub list_any-map : {X Y : Type 0} (p : Y → Bool) (f : X → Y) (xs : List X) → list_any p (map f xs) ≡ list_any (λ x. p (f x)) xs
@@ -45,7 +44,7 @@ pub names_differ-more : {X : Type 0} (bytes : X → List ℕ) (ws : List X) (w :
 unfolding names_differ
 names_differ-more bytes [] w name named h e f g = absurd (omega arith)
 names_differ-more bytes (v ∷ vs) w name named h e f g =
-    let all : take (length (v ∷ vs) - 1) vs ≡ vs = behind_first (v ∷ vs) in
+    let all : take (length (v ∷ vs) - 1) vs ≡ vs = from_place 1 (v ∷ vs) in
     let same : named ≡ is_named (map table_of_word (map bytes vs)) (table_of_word (bytes v)).name =
     g ∙ ap (list_any (λ u. is_same_name (table_of_word (bytes u)).name name)) all
     ∙ ap (λ (n : List ℕ). list_any (λ u. is_same_name (table_of_word (bytes u)).name n) vs) (f ∙ ap (λ u. (table_of_word (bytes u)).name) e)
@@ -116,7 +115,7 @@ pub is_some-command_more : {X : Type 0} (bytes : X → List ℕ) (ws : List X) �
     → is_some (option_and_then checked_tables (tables_of_words (map bytes (take (length ws - 1) (drop 1 ws))))) ≡ is_some (command (map bytes ws))
 unfolding command
 is_some-command_more bytes [] h = absurd (omega arith)
-is_some-command_more bytes (w ∷ ws) h = ap (λ (us : List _). is_some (option_and_then checked_tables (tables_of_words (map bytes us)))) (behind_first (w ∷ ws)) ∙ by (option_and_then checked_tables (tables_of_words (map bytes ws)))
+is_some-command_more bytes (w ∷ ws) h = ap (λ (us : List _). is_some (option_and_then checked_tables (tables_of_words (map bytes us)))) (from_place 1 (w ∷ ws)) ∙ by (option_and_then checked_tables (tables_of_words (map bytes ws)))
   where
     by : (o : Option (List TableWord)) → is_some o ≡ is_some (option_map (λ tables. command_with (bytes w) tables) o)
     by None = refl

@@ -1,9 +1,15 @@
 pub mod Code
 pub mod Words
 pub mod Script
+pub mod Seen
 pub mod TableText
 pub mod Join
 pub mod Binding
 pub mod Writing
 pub mod Outcome
 pub mod Refusal
+pub mod Loaded
+pub mod Reading
+pub mod Runnable
+pub mod Run
+pub mod Log

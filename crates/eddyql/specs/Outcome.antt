@@ -12,6 +12,7 @@ use Rattle.eddyql.specs.Script.{JoinQuery, early_script}
 use Rattle.eddyql.specs.TableText.{early_table}
 use Rattle.eddyql.specs.Join.{no_meaning}
 use Rattle.eddyql.specs.Binding.{block_of}
+use Rattle.eddyql.specs.declared.plan.Plan.{Plan}
 use Rattle.eddyql.specs.declared.status.Status.{Status}
 use Rattle.eddyql.specs.declared.status.Status.TheVariants as status
 use Rattle.eddyql.specs.declared.status.FileOf.TheVariants as file
@@ -58,11 +59,6 @@ columns_at tables table = option_map_or (λ (t : Relation). t.columns) (slice_ge
 abbrev pub block_bound : JoinQuery → List Relation → Result Block Status
 block_bound query tables =
     or_refuse (status.Bind 1 (UnknownColumn 0)) (block_of query (columns_at tables query.left) (columns_at tables query.right))
-
--- what a run runs: a block over tables
-pub record Plan : Type 0 where
-  pub block : Block
-  pub tables : List Relation
 
 -- the plan of a command over files: the script is read first, then the tables in order, then the columns are bound
 unfoldable pub plan_of : Command → List File → Result Plan Status

@@ -3,8 +3,15 @@
 #![tactic(auto)]
 
 mod binding;
+mod join;
+mod loading;
+mod plan;
+mod preparing;
+mod reading;
+mod run;
+mod script;
 mod status;
-mod writing;
 mod words;
+mod writing;
 
 fn main() {}

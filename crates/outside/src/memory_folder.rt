@@ -99,8 +99,6 @@ impl MemoryFolder {
 }
 
 impl Folder for MemoryFolder {
-    ghost use Rattle.std.specs.Prelude.{Some};
-
     ghost holds = { λ s. Some s.files };
 
     ghost faults = { λ s. s.faults };

@@ -1,5 +1,5 @@
-ghost use Rattle.std.specs.Prelude.{◌≡◌, ◌∷◌, ◌+◌, ◌==◌, ℕ, Some, true, not, is_ok, find, option_map, IfOk, OnOk, OnErr};
-ghost use Rattle.outside.specs.Chosen.{ChosenPut, choice, failing_put, empty_sink, put_fails, after_put};
+ghost use Rattle.std.specs.Prelude.{◌≡◌, ◌∷◌, ◌+◌, ◌==◌, Some, not, is_ok, find, option_map, IfOk, OnOk, OnErr};
+ghost use Rattle.outside.specs.Chosen.{failing_put, empty_sink, put_fails, after_put};
 ghost use Rattle.outside.specs.Faults.{NeverFalls, Rose};
 ghost use Rattle.outside.specs.Told.{Adds, AddsFront};
 
@@ -129,8 +129,6 @@ impl MemorySink {
 }
 
 impl Sink for MemorySink {
-    ghost use Rattle.std.specs.Prelude.{Some};
-
     ghost written = { λ s. Some s.written };
 
     ghost faults = { λ s. s.faults };

@@ -72,8 +72,6 @@ fn read_file<R: Files>(
 }
 
 impl<'r, R: Files> Folder for RealFolder<'r, R> {
-    ghost use Rattle.std.specs.Prelude.{None};
-
     ghost holds = { λ _. None };
 
     ghost faults = { λ s. s };

@@ -39,8 +39,6 @@ impl<W: Write> RealSink<W> {
 }
 
 impl<W: Write> Sink for RealSink<W> {
-    ghost use Rattle.std.specs.Prelude.{None};
-
     ghost written = { λ _. None };
 
     ghost faults = { λ s. s };

@@ -49,8 +49,6 @@ impl SureFolder {
 }
 
 impl Folder for SureFolder {
-    ghost use Rattle.std.specs.Prelude.{Some};
-
     ghost holds = { λ s. Some s };
 
     ghost faults = { λ _. 0 };

@@ -1,4 +1,4 @@
-ghost use Rattle.std.specs.Prelude.{◌≡◌, [], OnOk, IfOk, IsOk};
+ghost use Rattle.std.specs.Prelude.{◌≡◌, OnOk, IfOk, IsOk};
 ghost use Rattle.outside.specs.Told.{Adds};
 ghost use Rattle.outside.specs.Sure.{empty_sink, after_piece, told};
 
