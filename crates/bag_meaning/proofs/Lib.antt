@@ -1,4 +1,6 @@
 pub mod ListLemmas
+pub mod RangeLemmas
 pub mod ProductLemmas
 pub mod CreditLemmas
 pub mod ProductRange
+pub mod RisingLemmas

@@ -1,5 +1,5 @@
 -- Filters, maps and ranges: what std has no law for.
-use Rattle.std.proofs.Common.{◌≡◌, Bool, true, false, cond, List, [], ◌∷◌, ◌++◌, refl, ap, ◌∙◌}
+use Rattle.std.proofs.Common.{◌≡◌, Bool, true, false, cond, List, [], ◌∷◌, ◌++◌, refl, ap, ◌∙◌, sym}
 use Rattle.std.specs.Prelude.{not, ◌&&◌, map, filter, All}
 use Rattle.std.specs.List.{flat_map}
 use Rattle.std.specs.List.Sorted.{IsPermutation}
@@ -67,3 +67,44 @@ IsPermutation-filter_split {X} p q xs h =
     implied true b k = refl
     implied false true k = k refl
     implied false false k = refl
+
+-- nothing is kept where each element fails the test, and all where each passes
+pub filter_none : {X : Type 0} (p : X → Bool) (xs : List X) → All (λ x. p x ≡ false) xs → filter p xs ≡ []
+filter_none p [] h = refl
+filter_none {X} p (x ∷ xs) h =
+    ap (λ (b : Bool). cond b (x ∷ filter p xs) (filter p xs)) (All-head (λ (y : X). p y ≡ false) x xs h)
+    ∙ filter_none p xs (All-tail (λ (y : X). p y ≡ false) x xs h)
+
+pub filter_all : {X : Type 0} (p : X → Bool) (xs : List X) → All (λ x. p x ≡ true) xs → filter p xs ≡ xs
+filter_all p [] h = refl
+filter_all {X} p (x ∷ xs) h =
+    ap (λ (b : Bool). cond b (x ∷ filter p xs) (filter p xs)) (All-head (λ (y : X). p y ≡ true) x xs h)
+    ∙ ap (λ (r : List X). x ∷ r) (filter_all p xs (All-tail (λ (y : X). p y ≡ true) x xs h))
+
+and_comm : (a b : Bool) → (a && b) ≡ (b && a)
+and_comm true true = refl
+and_comm true false = refl
+and_comm false true = refl
+and_comm false false = refl
+
+-- two filters may change places
+pub filter_comm : {X : Type 0} (p q : X → Bool) (xs : List X) → filter p (filter q xs) ≡ filter q (filter p xs)
+filter_comm {X} p q xs =
+    filter-filter p q xs ∙ filter_agree (λ (x : X). q x && p x) (λ (x : X). p x && q x) (λ x. and_comm (q x) (p x)) xs ∙ sym (filter-filter q p xs)
+
+-- parts that agree on the elements
+pub flat_map_agree_on : {X Y : Type 0} (f g : X → List Y) (xs : List X) → All (λ x. f x ≡ g x) xs → flat_map f xs ≡ flat_map g xs
+flat_map_agree_on f g [] h = refl
+flat_map_agree_on {X} {Y} f g (x ∷ xs) h =
+    ap (λ (y : List Y). y ++ flat_map f xs) (All-head (λ (y : X). f y ≡ g y) x xs h)
+    ∙ ap (λ (r : List Y). g x ++ r) (flat_map_agree_on f g xs (All-tail (λ (y : X). f y ≡ g y) x xs h))
+
+-- parts that are empty where a test fails are the parts of what passes it
+pub flat_map-cond : {X Y : Type 0} (p : X → Bool) (f : X → List Y) (xs : List X) → flat_map (λ x. cond (p x) (f x) []) xs ≡ flat_map f (filter p xs)
+flat_map-cond p f [] = refl
+flat_map-cond {X} {Y} p f (x ∷ xs) = step (p x) (flat_map-cond p f xs)
+  where
+    step : (b : Bool) → flat_map (λ (y : X). cond (p y) (f y) []) xs ≡ flat_map f (filter p xs)
+        → cond b (f x) [] ++ flat_map (λ (y : X). cond (p y) (f y) []) xs ≡ flat_map f (cond b (x ∷ filter p xs) (filter p xs))
+    step true e = ap (λ (r : List Y). f x ++ r) e
+    step false e = e

@@ -11,3 +11,9 @@ pub mod HeadingLemmas
 pub mod FilledLemmas
 pub mod EarlyLemmas
 pub mod ExitLemmas
+pub mod JoinLemmas
+pub mod ProbeLemmas
+pub mod LogLemmas
+pub mod TurnLemmas
+pub mod StepLemmas
+pub mod OrderLemmas

@@ -17,6 +17,7 @@ use Rattle.eddyql.specs.Words.{TableWord, Command}
 use Rattle.eddyql.specs.Script.{JoinQuery, early_script}
 use Rattle.eddyql.specs.Join.{IsJoin}
 use Rattle.eddyql.specs.Writing.{IsOutput}
+use Rattle.eddyql.specs.Runnable.{IsRunnable}
 use Rattle.eddyql.specs.Binding.{columns_of, column_named, block_of, block_with, block_between}
 use Rattle.eddyql.specs.Outcome.{◌>>=◌, or_refuse, query_read, tables_read, columns_at, block_bound, plan_of}
 use Rattle.eddyql.specs.Refusal.{MayRefuse}
@@ -178,11 +179,7 @@ bound q tables block e = by (block_of q (columns_at tables q.left) (columns_at t
     by None f = absurd cc
     by (Some b) f = cc
 
--- what the engine and the writer ask of a block
-pub record IsRunnable (block : Block) (tables : List Relation) : Type 0 where
-  pub join : IsJoin block tables
-  pub output : All (IsOutput block tables) block.output
-
+-- a block that was bound to tables of integers can be run
 pub IsRunnable-bound : (q : JoinQuery) (tables : List Relation) (block : Block) → block_bound q tables ≡ Ok block → All IsIntegerTable tables
     → q.left < length tables → q.right < length tables → IsRunnable block tables
 IsRunnable-bound q tables block e integers h k =
@@ -212,3 +209,25 @@ IsRunnable-bound q tables block e integers h k =
           (outputs q _ _ b.i b.j 0 q.left tables t.table t.is (omega arith) refl (columns_at tables q.left) t.columns)
           (outputs q _ _ b.i b.j 1 q.right tables u.table u.is (omega arith) refl (columns_at tables q.right) u.columns));
     }
+
+-- the join of a script that was loaded
+pub query_found : (c : Command) (files : List File) (held : Option (List File)) (bytes text : List ℕ) (q : JoinQuery) → held ≡ Some files
+    → Gives held c.script 67108865 bytes → text ≡ bytes → early_script c.tables text ≡ Some q → query_read c files ≡ Ok q
+query_found c files held bytes text q told gives same e =
+    sym (query_read-loaded c files held bytes told gives)
+    ∙ ap (λ (xs : List ℕ). or_refuse no_script (early_script c.tables xs)) (sym same) ∙ ap (or_refuse no_script) e
+
+-- the refusal of a script that was loaded
+pub query_refused : (c : Command) (files : List File) (held : Option (List File)) (bytes text : List ℕ) (rose : Type 0) (s : Status) → held ≡ Some files
+    → Gives held c.script 67108865 bytes → text ≡ bytes → MayRefuse ⊥ (or_refuse no_script (early_script c.tables text)) s
+    → MayRefuse rose (plan_of c files) s
+query_refused c files held bytes text rose s told gives same h =
+    plan_refused-query c files rose s
+    (MayRefuse-same ⊥ rose _ _ s
+    (ap (λ (xs : List ℕ). or_refuse no_script (early_script c.tables xs)) same ∙ query_read-loaded c files held bytes told gives) (λ (r : ⊥). absurd r) h)
+
+-- the plan of a block that was bound
+pub plan_found : (c : Command) (files : List File) (q : JoinQuery) (tables : List Relation) (block : Block) → query_read c files ≡ Ok q
+    → tables_read 0 files c.tables ≡ Ok tables → block_bound q tables ≡ Ok block → plan_of c files ≡ Ok record { block = block; tables = tables }
+plan_found c files q tables block e f h =
+    plan_of-tables c files q tables e f ∙ ap (λ (r : Result Block Status). r >>= (λ b. Ok record { block = b; tables = tables })) h

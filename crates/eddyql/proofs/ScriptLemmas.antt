@@ -1,6 +1,6 @@
 -- How the tokens of a script are read.
-use Rattle.std.proofs.Common.{◌≡◌, ℕ, zero, suc, ◌+◌, ◌-◌, ◌≤◌, ◌<◌, Bool, true, false, ◌&&◌, cond, eqb, ltb, leb, List, [], ◌∷◌, ◌++◌, length, take, drop, get_or, Option, Some, None, refl, sym, ap, lit<, ◌⊎◌, inl, inr, length-take, subst, ◌∙◌, arith}
-use Rattle.std.specs.Prelude.{◌||◌, ◌==◌, not, map, option_map, slice_get, codes, Result, Ok, Err, is_ok, MatchResult}
+use Rattle.std.proofs.Common.{◌≡◌, ℕ, zero, suc, ◌+◌, ◌-◌, ◌≤◌, ◌<◌, Bool, true, false, ◌&&◌, cond, eqb, ltb, List, [], ◌∷◌, ◌++◌, length, take, drop, get_or, Option, Some, None, refl, sym, ap, ◌⊎◌, inl, inr, length-take, subst, ◌∙◌, arith}
+use Rattle.std.specs.Prelude.{◌||◌, not, map, slice_get, codes, Result, Ok, Err, is_ok, MatchResult}
 use Rattle.std.specs.Str.{IsUtf8, IsValidUpTo}
 use Rattle.std.specs.Str.Lossy.{utf8_valid_len}
 use Rattle.std.proofs.lemmas.Str.{utf8_valid_len-IsUtf8, utf8_valid_len-IsValidUpTo}
@@ -10,7 +10,7 @@ use Rattle.std.proofs.lemmas.Bool.{cases_lt}
 use Rattle.std.proofs.lemmas.Bool.Decides.{nat_tests}
 use Rattle.std.proofs.lemmas.List.{get_or-take, get_or_past, length-map, map-append, append_assoc, append-nil}
 use Rattle.std.proofs.lemmas.List.Quantifiers.{position-Some}
-use Rattle.std.proofs.lemmas.List.Sums.{prefix_len_passes, prefix_len-le-length}
+use Rattle.std.proofs.lemmas.List.Sums.{prefix_len_passes}
 use Rattle.sq_value.specs.Name.{is_same_name}
 use Rattle.eddyql.specs.Words.{TableWord, table_of_word, begins_identifier, follows_in_identifier}
 use Rattle.eddyql.specs.Script.{Token, is_blank, skipped, first_token, token_and, tokens_of, is_word, is_mark, is_name, word_of, is_join_form, place_of, join_between, join_of_tokens, JoinQuery, early_script}

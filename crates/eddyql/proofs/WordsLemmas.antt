@@ -1,10 +1,9 @@
 -- What a command's words are, and what the tests of them say.
-use Rattle.std.proofs.Common.{◌≡◌, ℕ, zero, suc, ◌≤◌, ◌<◌, Bool, true, false, ◌&&◌, cond, eqb, ltb, leb, ◌⊎◌, inl, inr, List, [], ◌∷◌, length, take, drop, get_or, ◌-◌, length-drop, Option, Some, None, refl, sym, ap, subst, ◌∙◌, arith}
+use Rattle.std.proofs.Common.{◌≡◌, ℕ, suc, ◌≤◌, ◌<◌, Bool, true, false, ◌&&◌, cond, ltb, leb, ◌⊎◌, inl, inr, List, [], ◌∷◌, length, take, drop, get_or, ◌-◌, length-drop, Option, Some, None, refl, sym, ap, subst, ◌∙◌, arith}
 use Rattle.std.specs.Prelude.{◌||◌, not, map, option_map}
 use Rattle.std.specs.Option.{is_some, option_and_then}
 use Rattle.std.specs.List.{list_all, list_any}
-use Rattle.std.proofs.lemmas.Bool.{false≢true, ltb-true, leb-true, lt-ltb, le-leb, lt-leb}
-use Rattle.std.proofs.lemmas.Bool.Decides.{nat_tests}
+use Rattle.std.proofs.lemmas.Bool.{ltb-true, leb-true, lt-ltb, le-leb, lt-leb}
 use Rattle.std.proofs.lemmas.List.{take_all, length-map}
 use Rattle.sq_value.specs.Name.{is_same_name}
 use Rattle.eddyql.specs.Words.{TableWord, Command, is_table_word, table_of_word, tables_of_words, is_named, names_differ, checked_tables, command}

@@ -8,6 +8,8 @@ pub mod Binding
 pub mod Writing
 pub mod Outcome
 pub mod Refusal
-pub mod Seen
 pub mod Loaded
 pub mod Reading
+pub mod Runnable
+pub mod Run
+pub mod Log

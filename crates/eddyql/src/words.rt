@@ -10,6 +10,11 @@ ghost use Rattle.sq_value.specs.Name.{is_same_name};
 
 use sq_value::same_name;
 
+// How many tables the words may name, and how many bytes the name of one may have.
+const MAX_TABLES: usize = 16;
+
+const MAX_NAME_BYTES: usize = 64;
+
 /// Whether a byte begins a regular identifier: an ASCII letter or `_`.
 pub fn begins_identifier(byte: u8) -> bool
     ensures { result ≡ spec.begins_identifier byte }
@@ -64,7 +69,7 @@ fn is_table_word(word: &str) -> bool
     ensures { result ≡ spec.is_table_word word.now }
 {
     let name = name_of(word);
-    is_identifier(name.as_bytes()) && name.len() <= 64 && !file_of(word).is_empty()
+    is_identifier(name.as_bytes()) && name.len() <= MAX_NAME_BYTES && !file_of(word).is_empty()
 }
 
 fn are_table_words(words: &[String]) -> bool
@@ -95,7 +100,7 @@ fn names_differ(words: &[String]) -> bool
 fn are_tables(words: &[String]) -> bool
     ensures { result ≡ is_some (option_and_then spec.checked_tables (spec.tables_of_words (map string_bytes words.now))) }
 {
-    if words.is_empty() || words.len() > 16 {
+    if words.is_empty() || words.len() > MAX_TABLES {
         return false;
     }
     are_table_words(words) && names_differ(words)
@@ -116,7 +121,7 @@ pub fn is_command(words: &[String]) -> bool
 #[cfg(test)]
 mod tests {
     use super::*;
-    use std::alloc::{AllocFailed, Global};
+    use std::alloc::Global;
     use std::test::Fail;
 
     const NAME_64: &str = "abcdefghijklmnopqrstuvwxyzabcdefghijklmnopqrstuvwxyzabcdefghijkl=f";

@@ -1,7 +1,7 @@
-use Rattle.std.proofs.Common.{◌≡◌, sym, ap, ◌∙◌}
+use Rattle.std.proofs.Common.{sym, ◌∙◌}
 use Rattle.std.specs.Prelude.{map, length, ◌==◌}
 use Rattle.eddyql.specs.Seen.{token_seen}
-use Rattle.eddyql.proofs.ScriptLemmas.{HasNames, HasNames-from_parts}
+use Rattle.eddyql.proofs.ScriptLemmas.{HasNames-from_parts}
 use Rattle.eddyql.proofs.script.is_join_form.Goals as goal
 
 pub are_same-requires-clause-first : goal.are_same-requires-clause-first

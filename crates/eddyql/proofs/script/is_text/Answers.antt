@@ -1,4 +1,4 @@
-use Rattle.std.proofs.Common.{◌≡◌, ◌<◌, length, ltb, false, sym, ap, ◌∙◌}
+use Rattle.std.proofs.Common.{◌≡◌, length, ltb, false, sym, ap, ◌∙◌}
 use Rattle.std.specs.Prelude.{not, ◌||◌, ◌==◌}
 use Rattle.std.specs.Str.Lossy.{utf8_valid_len}
 use Rattle.std.proofs.lemmas.Bool.{le-ltb}

@@ -1,9 +1,9 @@
-use Rattle.std.proofs.Common.{◌≡◌, ℕ, List, Some, None, sym, ap, ◌∙◌, Global}
+use Rattle.std.proofs.Common.{ℕ, List, Some, None, sym, ap, ◌∙◌, Global}
 use Rattle.std.specs.Prelude.{map, option_map, slice_get}
 use Rattle.std.specs.String.{string_bytes}
 use Rattle.eddyql.specs.Script.{JoinQuery, word_of}
 use Rattle.eddyql.specs.Seen.{token_seen, join_seen}
-use Rattle.eddyql.proofs.ScriptLemmas.{HasNames, HasNames-from_form, join_of_tokens-left, join_of_tokens-both, join_between-same, join_between-two, place_of-is}
+use Rattle.eddyql.proofs.ScriptLemmas.{HasNames-from_form, join_of_tokens-left, join_of_tokens-both, join_between-same, join_between-two, place_of-is}
 use Rattle.eddyql.proofs.script.join_of_tokens.Goals as goal
 
 abbrev joined : ℕ → ℕ → List ℕ → List ℕ → JoinQuery

@@ -1,4 +1,4 @@
-use Rattle.std.proofs.Common.{◌≡◌, sym, ap, ◌∙◌}
+use Rattle.std.proofs.Common.{sym, ap, ◌∙◌}
 use Rattle.std.specs.Prelude.{not, map}
 use Rattle.std.specs.String.{string_bytes}
 use Rattle.eddyql.specs.Words.{table_of_word}

@@ -1,7 +1,7 @@
-use Rattle.std.proofs.Common.{◌≡◌, Bool, ◌&&◌, sym, ◌∙◌, ap, Global}
-use Rattle.std.specs.Prelude.{not, map}
+use Rattle.std.proofs.Common.{sym, ◌∙◌, ap, Global}
+use Rattle.std.specs.Prelude.{not}
 use Rattle.std.specs.String.{string_bytes}
-use Rattle.eddyql.specs.Words.{table_of_word, names_differ}
+use Rattle.eddyql.specs.Words.{table_of_word}
 use Rattle.eddyql.proofs.WordsLemmas.{names_differ-none, names_differ-more}
 use Rattle.eddyql.proofs.words.+names_differ.Goals as goal
 

@@ -1,4 +1,4 @@
-use Rattle.std.proofs.Common.{◌≡◌, ◌∙◌, ap, Global}
+use Rattle.std.proofs.Common.{◌∙◌, Global}
 use Rattle.std.specs.String.{string_bytes}
 use Rattle.eddyql.proofs.WordsLemmas.{is_some-command_none, is_some-command_more}
 use Rattle.eddyql.proofs.words.is_command.Goals as goal

@@ -1,4 +1,4 @@
-use Rattle.std.proofs.Common.{◌≡◌, sym, ◌∙◌}
+use Rattle.std.proofs.Common.{sym, ◌∙◌}
 use Rattle.eddyql.proofs.ScriptLemmas.{skipped-empty, skipped-blank, skipped-token, skipped-comment}
 use Rattle.eddyql.proofs.script.tokens.behind_blanks.Goals as goal
 

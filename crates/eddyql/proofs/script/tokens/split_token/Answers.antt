@@ -1,4 +1,4 @@
-use Rattle.std.proofs.Common.{◌≡◌, sym, ◌∙◌}
+use Rattle.std.proofs.Common.{sym, ◌∙◌}
 use Rattle.eddyql.proofs.ScriptLemmas.{word-ascii}
 use Rattle.eddyql.proofs.script.tokens.split_token.Goals as goal
 

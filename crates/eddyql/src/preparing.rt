@@ -1,0 +1,94 @@
+//! From files to a plan: the script is read first, then the tables in order, then the columns are
+//! bound.
+
+ghost use Rattle.std.specs.Prelude.{◌≡◌, ◌<◌, ◌≤◌, ℕ, List, Some, None, Ok, IfOk, IfErr, OnOk, All, map, length};
+ghost use Rattle.std.specs.String.{string_bytes};
+ghost use Rattle.sq_value.specs.Relation.{Relation};
+ghost use Rattle.outside.specs.Files.{File};
+ghost use Rattle.outside.specs.Faults.{NeverFalls, Rose};
+ghost use Rattle.eddyql.specs.Words.{table_of_word};
+ghost use Rattle.eddyql.specs.Script.{early_script};
+ghost use Rattle.eddyql.specs.Seen.{join_seen};
+ghost use Rattle.eddyql.specs.Outcome.{or_refuse, block_bound, plan_of};
+ghost use Rattle.eddyql.specs.Refusal.{MayRefuse, IsEarly};
+ghost use Rattle.eddyql.specs.Loaded.{IsIntegerTable};
+ghost use Rattle.eddyql.specs.Runnable.{IsRunnable};
+ghost use Rattle.eddyql.specs.declared.status.FileOf.{FileOf};
+ghost use Rattle.eddyql.specs.declared.status.Status.TheVariants as status;
+ghost use Rattle.eddyql.specs.declared.status.ParseFault.TheVariants.{Syntax};
+
+use crate::binding::bind;
+use crate::loading::{load, load_tables};
+use crate::plan::Plan;
+use crate::script::{JoinQuery, read_script};
+use crate::status::{BindFault, FileOf, ParseFault, Status};
+use outside::Folder;
+use sq_expr::Block;
+use sq_value::Tables;
+use std::alloc::Global;
+
+// The join that a script asks for.
+fn find_query<'s>(alloc: Global, tables: &[String], text: &'s [u8]) -> Result<JoinQuery<'s>, Status>
+    ensures ok { IfOk result (λ query. early_script (map table_of_word (map string_bytes tables.now)) text.now ≡ Some (join_seen query)) }
+    ensures left { IfOk result (λ query. query.left < length tables.now) }
+    ensures right { IfOk result (λ query. query.right < length tables.now) }
+    ensures refused { IfErr result (MayRefuse ⊥ (or_refuse (status.Script (Syntax 0)) (early_script (map table_of_word (map string_bytes tables.now)) text.now))) }
+    ensures early { IfErr result IsEarly }
+{
+    match read_script(alloc, tables, text) {
+        Ok(Some(query)) => Ok(query),
+        Ok(None) => Err(Status::Script {
+            fault: ParseFault::Syntax { at: 0 },
+        }),
+        Err(_) => Err(Status::Memory),
+    }
+}
+
+// The block of a join over its tables.
+fn bind_query(alloc: Global, query: &JoinQuery<'_>, tables: &Tables) -> Result<Block, Status>
+    requires few { length tables.now ≤ 16 }
+    requires left { query.now.left < length tables.now }
+    requires right { query.now.right < length tables.now }
+    ensures ok { IfOk result (λ block. block_bound (join_seen query.now) tables.now ≡ Ok block) }
+    ensures refused { IfErr result (MayRefuse ⊥ (block_bound (join_seen query.now) tables.now)) }
+    ensures early { IfErr result IsEarly }
+{
+    let left = query.left as u32;
+    let right = query.right as u32;
+    match bind(alloc, left, right, query.left_column, query.right_column, tables) {
+        Ok(Some(block)) => Ok(block),
+        Ok(None) => Err(Status::Bind {
+            statement: 1,
+            fault: BindFault::UnknownColumn { at: 0 },
+        }),
+        Err(_) => Err(Status::Memory),
+    }
+}
+
+/// The plan of a script's file and table words: what a run runs.
+///
+/// # Errors
+/// The first refusal, in this order: the script isn't there or can't be read, or isn't a script;
+/// each table isn't there or can't be read, or isn't a table; a table lacks its column. Want of
+/// memory may come at any point.
+pub fn prepare<F: Folder>(alloc: Global, folder: &mut F, script: &str, tables: &[String]) -> Result<Plan, Status>
+    requires { length tables.now ≤ 16 }
+    ensures keeps { F.holds folder.new ≡ F.holds folder.old }
+    ensures counts { NeverFalls (F.faults folder.old) (F.faults folder.new) }
+    ensures told { IfOk result (λ plan. (files : List File) → F.holds folder.old ≡ Some files
+        → plan_of record { script = script.now; tables = map table_of_word (map string_bytes tables.now) } files ≡ Ok plan) }
+    ensures runnable { IfOk result (λ plan. IsRunnable plan.block plan.tables) }
+    ensures refused { IfErr result (λ s. (files : List File) → F.holds folder.old ≡ Some files
+        → MayRefuse (Rose (F.faults folder.old) (F.faults folder.new)) (plan_of record { script = script.now; tables = map table_of_word (map string_bytes tables.now) } files) s) }
+    ensures read { IfErr result (λ s. (f : FileOf) → s ≡ status.Read f → Rose (F.faults folder.old) (F.faults folder.new)) }
+    ensures early { IfErr result IsEarly }
+{
+    let text = load(alloc, folder, script, FileOf::Script)?;
+    let query = find_query(alloc, tables, text.as_slice())?;
+    let relations = load_tables(alloc, folder, tables)?;
+    let block = bind_query(alloc, &query, &relations)?;
+    Ok(Plan {
+        block,
+        tables: relations,
+    })
+}
