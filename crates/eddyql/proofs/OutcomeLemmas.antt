@@ -1,6 +1,6 @@
 -- The steps of an outcome: what was loaded stands for the whole file, and refusals come in one order.
 use Rattle.std.proofs.Common.{◌≡◌, ℕ, zero, suc, ◌+◌, ◌<◌, ◌≤◌, Bool, true, false, cond, ltb, List, [], ◌∷◌, ◌++◌, length, take, drop, get_or, min, Option, Some, None, Result, Ok, Err, refl, sym, ◌∙◌, ap, subst, ◌⊎◌, inl, inr, arith}
-use Rattle.std.specs.Prelude.{option_map, map, All, IfErr, ◌||◌, not, ◌==◌, ⊤}
+use Rattle.std.specs.Prelude.{option_map, map, All, IfErr, IsSome, IsOk, ◌||◌, not, ◌==◌, ⊤}
 use Rattle.std.proofs.lemmas.List.Elements.{All-map}
 use Rattle.csv.specs.Reading.{records, default_config}
 use Rattle.std.proofs.lemmas.List.{take_all, take_more, drop_more, get_or-map, length-map, take-append-drop, length-take, length-take-le}
@@ -10,7 +10,7 @@ use Rattle.sq_value.specs.Relation.{Relation}
 use Rattle.eddyql.specs.Words.{TableWord, table_of_word}
 use Rattle.eddyql.specs.Script.{JoinQuery, early_script}
 use Rattle.eddyql.specs.TableText.{early_table, table_of_records, column_of, integer_of}
-use Rattle.eddyql.specs.Outcome.{◌>>=◌, or_refuse, table_read, tables_read}
+use Rattle.eddyql.specs.Outcome.{◌>>=◌, or_refuse, table_read, tables_read, ReachedTable}
 use Rattle.eddyql.specs.Loaded.{LoadRefused, IsIntegerTable}
 use Rattle.sq_value.specs.declared.table.Column.{Column}
 use Rattle.sq_value.specs.declared.value.ColType.TheVariants.{Integer}
@@ -46,30 +46,30 @@ early_script-front tables xs = by (cases_lt 67108864 (length xs))
     by (inr h) = ap (early_script tables) (take_all 67108865 xs (omega arith))
 
 -- a refusal of a first step is the refusal of what begins with it
-pub MayRefuse-first : {A B : Type 0} (rose : Type 0) (first : Result A Status) (more : A → Result B Status) (s : Status)
-    → MayRefuse rose first s → MayRefuse rose (first >>= more) s
-MayRefuse-first rose first more status.Memory h = tt
-MayRefuse-first rose first more (status.Read f) h = h
-MayRefuse-first rose first more status.Done h = h
-MayRefuse-first rose first more status.Write h = h
-MayRefuse-first rose first more status.Usage h = ap (λ x. x >>= more) h
-MayRefuse-first rose first more (status.Script f) h = ap (λ x. x >>= more) h
-MayRefuse-first rose first more (status.Bind n f) h = ap (λ x. x >>= more) h
-MayRefuse-first rose first more (status.BadTable n f) h = ap (λ x. x >>= more) h
-MayRefuse-first rose first more (status.NotFound f) h = ap (λ x. x >>= more) h
+pub MayRefuse-first : {A B : Type 0} (reads : FileOf → Type 0) (first : Result A Status) (more : A → Result B Status) (s : Status)
+    → MayRefuse reads first s → MayRefuse reads (first >>= more) s
+MayRefuse-first reads first more status.Memory h = tt
+MayRefuse-first reads first more (status.Read f) h = h
+MayRefuse-first reads first more status.Done h = h
+MayRefuse-first reads first more status.Write h = h
+MayRefuse-first reads first more status.Usage h = ap (λ x. x >>= more) h
+MayRefuse-first reads first more (status.Script f) h = ap (λ x. x >>= more) h
+MayRefuse-first reads first more (status.Bind n f) h = ap (λ x. x >>= more) h
+MayRefuse-first reads first more (status.BadTable n f) h = ap (λ x. x >>= more) h
+MayRefuse-first reads first more (status.NotFound f) h = ap (λ x. x >>= more) h
 
 -- a refusal of an equal definition, for a reason that is weaker
-pub MayRefuse-same : {A : Type 0} (rose rises : Type 0) (x y : Result A Status) (s : Status) → x ≡ y → (rose → rises)
-    → MayRefuse rose x s → MayRefuse rises y s
-MayRefuse-same rose rises x y status.Memory e f h = tt
-MayRefuse-same rose rises x y (status.Read g) e f h = f h
-MayRefuse-same rose rises x y status.Done e f h = h
-MayRefuse-same rose rises x y status.Write e f h = h
-MayRefuse-same rose rises x y status.Usage e f h = sym e ∙ h
-MayRefuse-same rose rises x y (status.Script g) e f h = sym e ∙ h
-MayRefuse-same rose rises x y (status.Bind n g) e f h = sym e ∙ h
-MayRefuse-same rose rises x y (status.BadTable n g) e f h = sym e ∙ h
-MayRefuse-same rose rises x y (status.NotFound g) e f h = sym e ∙ h
+pub MayRefuse-same : {A : Type 0} (reads others : FileOf → Type 0) (x y : Result A Status) (s : Status) → x ≡ y → ((f : FileOf) → reads f → others f)
+    → MayRefuse reads x s → MayRefuse others y s
+MayRefuse-same reads others x y status.Memory e f h = tt
+MayRefuse-same reads others x y (status.Read g) e f h = f g h
+MayRefuse-same reads others x y status.Done e f h = h
+MayRefuse-same reads others x y status.Write e f h = h
+MayRefuse-same reads others x y status.Usage e f h = sym e ∙ h
+MayRefuse-same reads others x y (status.Script g) e f h = sym e ∙ h
+MayRefuse-same reads others x y (status.Bind n g) e f h = sym e ∙ h
+MayRefuse-same reads others x y (status.BadTable n g) e f h = sym e ∙ h
+MayRefuse-same reads others x y (status.NotFound g) e f h = sym e ∙ h
 
 -- a file that was loaded is there, and the table of its front is that of the file
 pub table_read-loaded : (number : ℕ) (files : List File) (t : TableWord) (held : Option (List File)) (bytes : List ℕ)
@@ -167,18 +167,18 @@ tables_read-more files all i d tables t h e f =
     ∙ ap (λ (a : Result Relation Status). a >>= (λ u. tables_read (i + 1) files [] >>= (λ us. Ok (tables ++ (u ∷ us))))) f
 
 -- a loop's end by a refusal: the refusal of the next table is that of all
-pub MayRefuse-next : (rose : Type 0) (files : List File) (all : List TableWord) (i : ℕ) (d : TableWord) (tables : List Relation) (s : Status) → i < length all
-    → tables_read 0 files (take i all) ≡ Ok tables → MayRefuse rose (table_read i files (get_or all i d)) s
-    → MayRefuse rose (tables_read 0 files all) s
-MayRefuse-next rose files all i d tables s h e f =
+pub MayRefuse-next : (reads : FileOf → Type 0) (files : List File) (all : List TableWord) (i : ℕ) (d : TableWord) (tables : List Relation) (s : Status) → i < length all
+    → tables_read 0 files (take i all) ≡ Ok tables → MayRefuse reads (table_read i files (get_or all i d)) s
+    → MayRefuse reads (tables_read 0 files all) s
+MayRefuse-next reads files all i d tables s h e f =
     let place : 0 + length (take i all) ≡ i = omega (arith, length-take-le i all (omega arith)) in
     let split : all ≡ take i all ++ (get_or all i d ∷ drop (i + 1) all) =
     sym (take-append-drop i all) ∙ ap (λ (z : List TableWord). take i all ++ z) (drop_more all i d h) in
     let whole : tables_read 0 files all ≡ read_behind i files tables (get_or all i d) (drop (i + 1) all) =
     ap (tables_read 0 files) split ∙ tables_read-behind 0 files (take i all) (get_or all i d) (drop (i + 1) all) tables e
     ∙ ap (λ (n : ℕ). read_behind n files tables (get_or all i d) (drop (i + 1) all)) place in
-    MayRefuse-same rose rose _ _ s (sym whole) (λ r. r)
-    (MayRefuse-first rose (table_read i files (get_or all i d)) (λ t. tables_read (i + 1) files (drop (i + 1) all) >>= (λ ts. Ok (tables ++ (t ∷ ts)))) s f)
+    MayRefuse-same reads reads _ _ s (sym whole) (λ f r. r)
+    (MayRefuse-first reads (table_read i files (get_or all i d)) (λ t. tables_read (i + 1) files (drop (i + 1) all) >>= (λ ts. Ok (tables ++ (t ∷ ts)))) s f)
 
 -- the table word at a place of words that have bytes
 pub word_at : {X : Type 0} (bytes : X → List ℕ) (ws : List X) (i : ℕ) (w : X) → i < length ws → w ≡ get_or ws i w
@@ -197,3 +197,32 @@ pub word_told : {X : Type 0} (bytes : X → List ℕ) (ws : List X) (i : ℕ) (w
     → get_or (map table_of_word (map bytes ws)) i (table_of_word text) ≡ table_of_word text
 word_told bytes ws i w text h is e =
     subst (λ (b : List ℕ). get_or (map table_of_word (map bytes ws)) i (table_of_word b) ≡ table_of_word b) (sym e) (word_at bytes ws i w h is)
+
+-- what a step may answer where less is told
+pub IsEarly-weaker : (told tells : Type 0) (s : Status) → (told → tells) → IsEarly told s → IsEarly tells s
+IsEarly-weaker told tells status.Memory f h = tt
+IsEarly-weaker told tells (status.Read g) f h = tt
+IsEarly-weaker told tells status.Done f h = h
+IsEarly-weaker told tells status.Write f h = h
+IsEarly-weaker told tells status.Usage f h = h
+IsEarly-weaker told tells (status.Script g) f h = tt
+IsEarly-weaker told tells (status.Bind n g) f h = tt
+IsEarly-weaker told tells (status.BadTable n g) f h = tt
+IsEarly-weaker told tells (status.NotFound g) f h = f h
+
+-- a load that was refused
+pub IsEarly-loaded : (held : Option (List File)) (name : List ℕ) (f : FileOf) (rose : Type 0) (s : Status) → LoadRefused held name f rose s
+    → IsEarly (IsSome held) s
+IsEarly-loaded held name f rose s (inl e) = subst (IsEarly (IsSome held)) (sym e) tt
+IsEarly-loaded held name f rose s (inr (inl h)) = subst (IsEarly (IsSome held)) (sym h.0) tt
+IsEarly-loaded None name f rose s (inr (inr h)) = absurd h.1
+IsEarly-loaded (Some files) name f rose s (inr (inr h)) = subst (IsEarly (IsSome (Some files))) (sym h.0) refl
+
+-- a reason of a read fault by a weaker one
+pub reads_weaker : (rose rises : Type 0) (P Q : FileOf → Type 0) → (rose → rises) → ((f : FileOf) → P f → Q f) → (f : FileOf) → rose × P f → rises × Q f
+reads_weaker rose rises P Q a b f h = (a h.0, b f h.1)
+
+-- a table that is next is reached
+pub next_reached : (files : List File) (all : List TableWord) (i : ℕ) (tables : List Relation) → tables_read 0 files (take i all) ≡ Ok tables
+    → (f : FileOf) → f ≡ file.Table i → ReachedTable files all f
+next_reached files all i tables e f is = subst (ReachedTable files all) (sym is) (subst (λ (o : Result (List Relation) Status). IsOk o) (sym e) refl)

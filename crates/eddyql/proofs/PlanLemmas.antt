@@ -1,6 +1,6 @@
 -- The plan of a command: its steps, and what holds of its block.
 use Rattle.std.proofs.Common.{◌≡◌, ℕ, zero, suc, ◌+◌, ◌<◌, ◌≤◌, Bool, true, false, cond, ltb, List, [], ◌∷◌, ◌++◌, length, take, get_or, map, Option, Some, None, Result, Ok, Err, refl, sym, ◌∙◌, ap, subst, ◌⊎◌, inl, inr, arith}
-use Rattle.std.specs.Prelude.{option_map, position, slice_get, All}
+use Rattle.std.specs.Prelude.{option_map, position, slice_get, All, IsOk}
 use Rattle.std.specs.List.{position_or_len}
 use Rattle.std.proofs.lemmas.Bool.{ltb-true, lt-ltb}
 use Rattle.std.proofs.lemmas.Option.{slice_get-get_or, get_or_from_slice_get, slice_get_within}
@@ -19,12 +19,13 @@ use Rattle.eddyql.specs.Join.{IsJoin}
 use Rattle.eddyql.specs.Writing.{IsOutput}
 use Rattle.eddyql.specs.Runnable.{IsRunnable}
 use Rattle.eddyql.specs.Binding.{columns_of, column_named, block_of, block_with, block_between}
-use Rattle.eddyql.specs.Outcome.{◌>>=◌, or_refuse, query_read, tables_read, columns_at, block_bound, plan_of}
-use Rattle.eddyql.specs.Refusal.{MayRefuse}
+use Rattle.eddyql.specs.Outcome.{◌>>=◌, or_refuse, query_read, tables_read, columns_at, block_bound, plan_of, Reached, ReachedTable}
+use Rattle.eddyql.specs.Refusal.{MayRefuse, never}
 use Rattle.eddyql.specs.Loaded.{LoadRefused, IsIntegerTable}
 use Rattle.eddyql.specs.declared.plan.Plan.{Plan}
 use Rattle.eddyql.specs.declared.status.Status.{Status}
 use Rattle.eddyql.specs.declared.status.Status.TheVariants as status
+use Rattle.eddyql.specs.declared.status.FileOf.{FileOf}
 use Rattle.eddyql.specs.declared.status.FileOf.TheVariants as file
 use Rattle.eddyql.specs.declared.status.ParseFault.TheVariants.{Syntax}
 use Rattle.eddyql.specs.declared.status.BindFault.TheVariants.{UnknownColumn}
@@ -51,13 +52,13 @@ query_read-loaded c files held bytes told gives = by (lookup files c.script) giv
         ap (λ (o : Option JoinQuery). or_refuse no_script o) (ap (early_script c.tables) (sym same) ∙ early_script-front c.tables xs)
 
 -- why a script wasn't loaded
-pub query_read-refused : (c : Command) (files : List File) (held : Option (List File)) (rose : Type 0) (s : Status)
-    → held ≡ Some files → LoadRefused held c.script file.Script rose s → MayRefuse rose (query_read c files) s
-query_read-refused c files held rose s told (inl e) = subst (MayRefuse rose (query_read c files)) (sym e) tt
-query_read-refused c files held rose s told (inr (inl h)) = subst (MayRefuse rose (query_read c files)) (sym h.0) h.1
-query_read-refused c files held rose s told (inr (inr h)) =
+pub query_read-refused : (c : Command) (files : List File) (held : Option (List File)) (rose : Type 0) (reads : FileOf → Type 0) (s : Status)
+    → held ≡ Some files → (rose → reads file.Script) → LoadRefused held c.script file.Script rose s → MayRefuse reads (query_read c files) s
+query_read-refused c files held rose reads s told f (inl e) = subst (MayRefuse reads (query_read c files)) (sym e) tt
+query_read-refused c files held rose reads s told f (inr (inl h)) = subst (MayRefuse reads (query_read c files)) (sym h.0) (f h.1)
+query_read-refused c files held rose reads s told f (inr (inr h)) =
     let none : lookup files c.script ≡ None = subst (λ (o : Option (List File)). Lacks o c.script) told h.1 in
-    subst (MayRefuse rose (query_read c files)) (sym h.0) (rw none refl)
+    subst (MayRefuse reads (query_read c files)) (sym h.0) (rw none refl)
 
 -- what is left of a plan behind its script, and behind its tables
 abbrev pub behind_query : JoinQuery → Command → List File → Result Plan Status
@@ -76,23 +77,23 @@ plan_of-tables c files q tables e f =
     plan_of-query c files q e ∙ ap (λ (r : Result (List Relation) Status). r >>= (λ ts. behind_tables q ts)) f
 
 -- a refusal of the script is that of the plan
-pub plan_refused-query : (c : Command) (files : List File) (rose : Type 0) (s : Status) → MayRefuse rose (query_read c files) s → MayRefuse rose (plan_of c files) s
+pub plan_refused-query : (c : Command) (files : List File) (reads : FileOf → Type 0) (s : Status) → MayRefuse reads (query_read c files) s → MayRefuse reads (plan_of c files) s
 unfolding plan_of
-plan_refused-query c files rose s h = MayRefuse-first rose (query_read c files) (λ query. behind_query query c files) s h
+plan_refused-query c files reads s h = MayRefuse-first reads (query_read c files) (λ query. behind_query query c files) s h
 
 -- a refusal of the tables, behind a script
-pub plan_refused-tables : (c : Command) (files : List File) (q : JoinQuery) (rose : Type 0) (s : Status) → query_read c files ≡ Ok q
-    → MayRefuse rose (tables_read 0 files c.tables) s → MayRefuse rose (plan_of c files) s
-plan_refused-tables c files q rose s e h =
-    MayRefuse-same rose rose _ _ s (sym (plan_of-query c files q e)) (λ r. r)
-    (MayRefuse-first rose (tables_read 0 files c.tables) (λ tables. behind_tables q tables) s h)
+pub plan_refused-tables : (c : Command) (files : List File) (q : JoinQuery) (reads : FileOf → Type 0) (s : Status) → query_read c files ≡ Ok q
+    → MayRefuse reads (tables_read 0 files c.tables) s → MayRefuse reads (plan_of c files) s
+plan_refused-tables c files q reads s e h =
+    MayRefuse-same reads reads _ _ s (sym (plan_of-query c files q e)) (λ f r. r)
+    (MayRefuse-first reads (tables_read 0 files c.tables) (λ tables. behind_tables q tables) s h)
 
 -- a refusal of the columns, behind the tables
-pub plan_refused-block : (c : Command) (files : List File) (q : JoinQuery) (tables : List Relation) (rose : Type 0) (s : Status) → query_read c files ≡ Ok q
-    → tables_read 0 files c.tables ≡ Ok tables → MayRefuse ⊥ (block_bound q tables) s → MayRefuse rose (plan_of c files) s
-plan_refused-block c files q tables rose s e f h =
-    MayRefuse-same ⊥ rose _ _ s (sym (plan_of-tables c files q tables e f)) (λ (r : ⊥). absurd r)
-    (MayRefuse-first ⊥ (block_bound q tables) (λ block. Ok record { block = block; tables = tables }) s h)
+pub plan_refused-block : (c : Command) (files : List File) (q : JoinQuery) (tables : List Relation) (reads : FileOf → Type 0) (s : Status) → query_read c files ≡ Ok q
+    → tables_read 0 files c.tables ≡ Ok tables → MayRefuse never (block_bound q tables) s → MayRefuse reads (plan_of c files) s
+plan_refused-block c files q tables reads s e f h =
+    MayRefuse-same never reads _ _ s (sym (plan_of-tables c files q tables e f)) (λ g (r : ⊥). absurd r)
+    (MayRefuse-first never (block_bound q tables) (λ block. Ok record { block = block; tables = tables }) s h)
 
 -- a place that was found is within the list
 position-within : {X : Type 0} (p : X → Bool) (xs : List X) (i : ℕ) → position p xs ≡ Some i → i < length xs
@@ -218,16 +219,21 @@ query_found c files held bytes text q told gives same e =
     ∙ ap (λ (xs : List ℕ). or_refuse no_script (early_script c.tables xs)) (sym same) ∙ ap (or_refuse no_script) e
 
 -- the refusal of a script that was loaded
-pub query_refused : (c : Command) (files : List File) (held : Option (List File)) (bytes text : List ℕ) (rose : Type 0) (s : Status) → held ≡ Some files
-    → Gives held c.script 67108865 bytes → text ≡ bytes → MayRefuse ⊥ (or_refuse no_script (early_script c.tables text)) s
-    → MayRefuse rose (plan_of c files) s
-query_refused c files held bytes text rose s told gives same h =
-    plan_refused-query c files rose s
-    (MayRefuse-same ⊥ rose _ _ s
-    (ap (λ (xs : List ℕ). or_refuse no_script (early_script c.tables xs)) same ∙ query_read-loaded c files held bytes told gives) (λ (r : ⊥). absurd r) h)
+pub query_refused : (c : Command) (files : List File) (held : Option (List File)) (bytes text : List ℕ) (reads : FileOf → Type 0) (s : Status) → held ≡ Some files
+    → Gives held c.script 67108865 bytes → text ≡ bytes → MayRefuse never (or_refuse no_script (early_script c.tables text)) s
+    → MayRefuse reads (plan_of c files) s
+query_refused c files held bytes text reads s told gives same h =
+    plan_refused-query c files reads s
+    (MayRefuse-same never reads _ _ s
+    (ap (λ (xs : List ℕ). or_refuse no_script (early_script c.tables xs)) same ∙ query_read-loaded c files held bytes told gives) (λ g (r : ⊥). absurd r) h)
 
 -- the plan of a block that was bound
 pub plan_found : (c : Command) (files : List File) (q : JoinQuery) (tables : List Relation) (block : Block) → query_read c files ≡ Ok q
     → tables_read 0 files c.tables ≡ Ok tables → block_bound q tables ≡ Ok block → plan_of c files ≡ Ok record { block = block; tables = tables }
 plan_found c files q tables block e f h =
     plan_of-tables c files q tables e f ∙ ap (λ (r : Result Block Status). r >>= (λ b. Ok record { block = b; tables = tables })) h
+
+-- a table that is reached behind a script that is in form
+pub Reached-table : (c : Command) (files : List File) (q : JoinQuery) (f : FileOf) → query_read c files ≡ Ok q → ReachedTable files c.tables f → Reached c files f
+Reached-table c files q file.Script e h = absurd h
+Reached-table c files q (file.Table n) e h = (subst (λ (r : Result JoinQuery Status). IsOk r) (sym e) refl, h)

@@ -12,7 +12,9 @@ use Rattle.bag_meaning.proofs.ProductRange.{IsCombination, bag-in_range}
 use Rattle.eddyql.specs.Words.{Command, command, table_of_word}
 use Rattle.eddyql.specs.Join.{IsJoin, no_meaning}
 use Rattle.eddyql.specs.Writing.{HasRows, rows_of_combo}
-use Rattle.eddyql.specs.Outcome.{◌>>=◌, or_refuse, plan_of, outcome, text_of}
+use Rattle.eddyql.specs.Outcome.{◌>>=◌, or_refuse, plan_of, outcome, text_of, Reached, ReachedBy}
+use Rattle.eddyql.specs.declared.status.FileOf.{FileOf}
+use Rattle.eddyql.proofs.OutcomeLemmas.{MayRefuse-same}
 use Rattle.eddyql.specs.Refusal.{MayRefuse, IsEarly}
 use Rattle.eddyql.specs.Run.{MayEnd, status_of, text_due, IsLate}
 use Rattle.eddyql.specs.declared.plan.Plan.{Plan}
@@ -82,14 +84,14 @@ unfolding outcome
 outcome-usage words files e = rw e refl
 
 -- a refusal before the output ends a run so
-pub MayEnd-early : (words : List (List ℕ)) (c : Command) (files : List File) (rose rises : Type 0) (s : Status) → command words ≡ Some c → IsEarly s
-    → MayRefuse rose (plan_of c files) s → MayEnd rose rises (outcome words files) s
-MayEnd-early words c files rose rises s e early h = by s early h
+pub MayEnd-early : (words : List (List ℕ)) (c : Command) (files : List File) (reads : FileOf → Type 0) (writes told : Type 0) (s : Status) → command words ≡ Some c → IsEarly told s
+    → MayRefuse reads (plan_of c files) s → MayEnd reads writes (outcome words files) s
+MayEnd-early words c files reads writes told s e early h = by s early h
   where
     end : (t : Status) → plan_of c files ≡ Err t → outcome words files ≡ Err t
     end t f = outcome-plan words c files e ∙ ap (λ (r : Result Plan Status). r >>= (λ p. Ok (text_of p))) f
 
-    by : (t : Status) → IsEarly t → MayRefuse rose (plan_of c files) t → MayEnd rose rises (outcome words files) t
+    by : (t : Status) → IsEarly told t → MayRefuse reads (plan_of c files) t → MayEnd reads writes (outcome words files) t
     by status.Memory i k = tt
     by (status.Read f) i k = k
     by status.Done i k = absurd i
@@ -101,25 +103,26 @@ MayEnd-early words c files rose rises s e early h = by s early h
     by (status.NotFound f) i k = end (status.NotFound f) k
 
 -- without a fault, a run ends by the outcome's status or for want of memory
-pub ends_by_outcome : (rose rises : Type 0) (due : Result (List ℕ) Status) (s : Status) → MayEnd rose rises due s → ¬ rose → ¬ rises
+pub ends_by_outcome : (reads : FileOf → Type 0) (writes : Type 0) (due : Result (List ℕ) Status) (s : Status) → MayEnd reads writes due s
+    → ((f : FileOf) → ¬ (reads f)) → ¬ writes
     → (s ≡ status_of due) ⊎ (s ≡ status.Memory)
-ends_by_outcome rose rises (Ok text) status.Done h a b = inl refl
-ends_by_outcome rose rises (Err r) status.Done h a b = absurd (false≢true h)
-ends_by_outcome rose rises due status.Write h a b = absurd (b h.0)
-ends_by_outcome rose rises due (status.Read f) h a b = absurd (a h)
-ends_by_outcome rose rises due status.Memory h a b = inr refl
-ends_by_outcome rose rises due status.Usage h a b = inl (sym (ap status_of h))
-ends_by_outcome rose rises due (status.Script f) h a b = inl (sym (ap status_of h))
-ends_by_outcome rose rises due (status.Bind n f) h a b = inl (sym (ap status_of h))
-ends_by_outcome rose rises due (status.BadTable n f) h a b = inl (sym (ap status_of h))
-ends_by_outcome rose rises due (status.NotFound f) h a b = inl (sym (ap status_of h))
+ends_by_outcome reads writes (Ok text) status.Done h a b = inl refl
+ends_by_outcome reads writes (Err r) status.Done h a b = absurd (false≢true h)
+ends_by_outcome reads writes due status.Write h a b = absurd (b h.0)
+ends_by_outcome reads writes due (status.Read f) h a b = absurd (a f h)
+ends_by_outcome reads writes due status.Memory h a b = inr refl
+ends_by_outcome reads writes due status.Usage h a b = inl (sym (ap status_of h))
+ends_by_outcome reads writes due (status.Script f) h a b = inl (sym (ap status_of h))
+ends_by_outcome reads writes due (status.Bind n f) h a b = inl (sym (ap status_of h))
+ends_by_outcome reads writes due (status.BadTable n f) h a b = inl (sym (ap status_of h))
+ends_by_outcome reads writes due (status.NotFound f) h a b = inl (sym (ap status_of h))
 
 -- a run whose text is due ends by a step that writes
-pub MayEnd-late : (rose rises : Type 0) (due : Result (List ℕ) Status) (text : List ℕ) (s : Status) → due ≡ Ok text → IsLate s
-    → (s ≡ status.Write → rises) → MayEnd rose rises due s
-MayEnd-late rose rises due text s e late writes = subst (λ (r : Result (List ℕ) Status). MayEnd rose rises r s) (sym e) (by s late writes)
+pub MayEnd-late : (reads : FileOf → Type 0) (rises : Type 0) (due : Result (List ℕ) Status) (text : List ℕ) (s : Status) → due ≡ Ok text → IsLate s
+    → (s ≡ status.Write → rises) → MayEnd reads rises due s
+MayEnd-late reads rises due text s e late writes = subst (λ (r : Result (List ℕ) Status). MayEnd reads rises r s) (sym e) (by s late writes)
   where
-    by : (t : Status) → IsLate t → (t ≡ status.Write → rises) → MayEnd rose rises (Ok text) t
+    by : (t : Status) → IsLate t → (t ≡ status.Write → rises) → MayEnd reads rises (Ok text) t
     by status.Done i f = refl
     by status.Write i f = (f refl, refl)
     by status.Memory i f = tt
@@ -157,9 +160,15 @@ outcome_of_run words script name tables files plan r same e =
     (ap (λ (s : List ℕ). plan_of record { script = s; tables = map table_of_word tables } files) (sym same) ∙ e)
 
 -- the end of a run whose plan was refused
-pub end_of_refused : (words : List (List ℕ)) (script name : List ℕ) (tables : List (List ℕ)) (files : List File) (rose rises : Type 0) (s : Status)
-    → IsRunOf words script tables → name ≡ script → IsEarly s
-    → MayRefuse rose (plan_of record { script = name; tables = map table_of_word tables } files) s → MayEnd rose rises (outcome words files) s
-end_of_refused words script name tables files rose rises s r same early h =
-    MayEnd-early words _ files rose rises s r.is early
-    (subst (λ (n : List ℕ). MayRefuse rose (plan_of record { script = n; tables = map table_of_word tables } files) s) same h)
+pub end_of_refused : (words : List (List ℕ)) (script name : List ℕ) (tables : List (List ℕ)) (files : List File) (rose writes told : Type 0) (s : Status)
+    → IsRunOf words script tables → name ≡ script → IsEarly told s
+    → MayRefuse (λ f. rose × Reached record { script = name; tables = map table_of_word tables } files f) (plan_of record { script = name; tables = map table_of_word tables } files) s
+    → MayEnd (λ f. rose × ReachedBy words files f) writes (outcome words files) s
+end_of_refused words script name tables files rose writes told s r same early h =
+    let command_is = r.is ∙ ap (λ (n : List ℕ). Some record { script = n; tables = map table_of_word tables }) (sym same) in
+    MayEnd-early words _ files (λ f. rose × ReachedBy words files f) writes told s command_is early
+    (MayRefuse-same _ _ _ _ s refl (λ f k. (k.0, (_, command_is, k.1))) h)
+
+-- where the folder's count didn't rise, no file has a read fault
+pub not_read : (rose : Type 0) (P : FileOf → Type 0) → ¬ rose → (f : FileOf) → ¬ (rose × P f)
+not_read rose P calm f h = calm h.0

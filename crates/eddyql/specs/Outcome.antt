@@ -1,5 +1,5 @@
 -- What a run must answer: the outcome of words over files is the text of the answer, or the first refusal.
-use Rattle.std.specs.Prelude.{◌≡◌, ℕ, ◌+◌, List, [], ◌∷◌, Option, Some, None, Result, Ok, Err, slice_get, ⊤}
+use Rattle.std.specs.Prelude.{◌≡◌, ℕ, ◌+◌, List, [], ◌∷◌, take, Option, Some, None, Result, Ok, Err, IsOk, slice_get, ⊤}
 use Rattle.std.specs.Option.{option_map_or}
 use Rattle.sq_value.specs.Relation.{Relation}
 use Rattle.sq_value.specs.declared.table.Column.{Column}
@@ -15,6 +15,7 @@ use Rattle.eddyql.specs.Binding.{block_of}
 use Rattle.eddyql.specs.declared.plan.Plan.{Plan}
 use Rattle.eddyql.specs.declared.status.Status.{Status}
 use Rattle.eddyql.specs.declared.status.Status.TheVariants as status
+use Rattle.eddyql.specs.declared.status.FileOf.{FileOf}
 use Rattle.eddyql.specs.declared.status.FileOf.TheVariants as file
 use Rattle.eddyql.specs.declared.status.ParseFault.TheVariants.{Syntax}
 use Rattle.eddyql.specs.declared.status.TableFault.TheVariants.{NoHeading}
@@ -67,6 +68,20 @@ plan_of c files = do
   tables ← tables_read 0 files c.tables
   block ← block_bound query tables
   Ok record { block = block; tables = tables }
+
+-- whether a file is one of these tables, and all tables before it are there and in form
+abbrev pub ReachedTable : List File → List TableWord → FileOf → Type 0
+ReachedTable files tables file.Script = ⊥
+ReachedTable files tables (file.Table number) = IsOk (tables_read 0 files (take number tables))
+
+-- whether nothing refuses before a file of a command is loaded: the script is loaded first, then the tables in order
+abbrev pub Reached : Command → List File → FileOf → Type 0
+Reached c files file.Script = ⊤
+Reached c files (file.Table number) = IsOk (query_read c files) × ReachedTable files c.tables (file.Table number)
+
+-- the same of words
+abbrev pub ReachedBy : List (List ℕ) → List File → FileOf → Type 0
+ReachedBy words files f = (c : Command) × (command words ≡ Some c) × Reached c files f
 
 -- the text that a plan's answer has: without ORDER BY the answer is the bag in the order of the product
 abbrev pub text_of : Plan → List ℕ

@@ -1,15 +1,16 @@
 //! Loads the files that the words name, and reads the tables.
 
-ghost use Rattle.std.specs.Prelude.{◌≡◌, ◌<◌, ◌≤◌, ℕ, List, Some, None, Ok, IfOk, IfErr, OnOk, All, map, length};
+ghost use Rattle.std.specs.Prelude.{◌≡◌, ◌<◌, ◌≤◌, ℕ, List, Some, None, Ok, IsSome, IfOk, IfErr, OnOk, All, map, length};
 ghost use Rattle.std.specs.String.{string_bytes};
 ghost use Rattle.outside.specs.Files.{File, Gives};
 ghost use Rattle.outside.specs.Faults.{NeverFalls, Rose};
 ghost use Rattle.eddyql.specs.Words.{table_of_word};
 ghost use Rattle.eddyql.specs.TableText.{early_table};
-ghost use Rattle.eddyql.specs.Outcome.{table_read, tables_read, or_refuse};
-ghost use Rattle.eddyql.specs.Refusal.{MayRefuse, IsEarly};
+ghost use Rattle.eddyql.specs.Outcome.{table_read, tables_read, or_refuse, ReachedTable};
+ghost use Rattle.eddyql.specs.Refusal.{MayRefuse, IsEarly, never};
 ghost use Rattle.eddyql.specs.Loaded.{LoadRefused, IsIntegerTable, AddsTable};
 ghost use Rattle.eddyql.specs.declared.status.FileOf.{FileOf};
+ghost use Rattle.eddyql.specs.declared.status.FileOf.TheVariants as file;
 ghost use Rattle.eddyql.specs.declared.status.Status.TheVariants as status;
 ghost use Rattle.eddyql.specs.declared.status.TableFault.TheVariants as fault;
 
@@ -46,8 +47,8 @@ pub fn load<F: Folder>(
 // Reads the bytes of a table.
 fn table_of(alloc: Global, bytes: &[u8], number: u32) -> Result<Table, Status>
     ensures ok { IfOk result (λ table. early_table bytes.now ≡ Some table) }
-    ensures refused { IfErr result (MayRefuse ⊥ (or_refuse (status.BadTable number fault.NoHeading) (early_table bytes.now))) }
-    ensures early { IfErr result IsEarly }
+    ensures refused { IfErr result (MayRefuse never (or_refuse (status.BadTable number fault.NoHeading) (early_table bytes.now))) }
+    ensures early { IfErr result (IsEarly ⊥) }
 {
     match read_table(alloc, bytes) {
         Ok(table) => Ok(table),
@@ -72,9 +73,9 @@ fn load_table<F: Folder>(
         → table_read number files (table_of_word word.now) ≡ Ok table) }
     ensures integers { IfOk result IsIntegerTable }
     ensures refused { IfErr result (λ s. (files : List File) → F.holds folder.old ≡ Some files
-        → MayRefuse (Rose (F.faults folder.old) (F.faults folder.new)) (table_read number files (table_of_word word.now)) s) }
+        → MayRefuse (λ f. Rose (F.faults folder.old) (F.faults folder.new) × (f ≡ file.Table number)) (table_read number files (table_of_word word.now)) s) }
     ensures read { IfErr result (λ s. (f : FileOf) → s ≡ status.Read f → Rose (F.faults folder.old) (F.faults folder.new)) }
-    ensures early { IfErr result IsEarly }
+    ensures early { IfErr result (IsEarly (IsSome (F.holds folder.old))) }
 {
     match load(alloc, folder, file_of(word), FileOf::Table(number)) {
         Ok(bytes) => table_of(alloc, bytes.as_slice(), number),
@@ -95,9 +96,9 @@ fn push_table<F: Folder>(
     ensures counts { NeverFalls (F.faults folder.old) (F.faults folder.new) }
     ensures added { OnOk result (AddsTable (F.holds folder.old) number word.now tables.old tables.new) }
     ensures refused { IfErr result (λ s. (files : List File) → F.holds folder.old ≡ Some files
-        → MayRefuse (Rose (F.faults folder.old) (F.faults folder.new)) (table_read number files (table_of_word word.now)) s) }
+        → MayRefuse (λ f. Rose (F.faults folder.old) (F.faults folder.new) × (f ≡ file.Table number)) (table_read number files (table_of_word word.now)) s) }
     ensures read { IfErr result (λ s. (f : FileOf) → s ≡ status.Read f → Rose (F.faults folder.old) (F.faults folder.new)) }
-    ensures early { IfErr result IsEarly }
+    ensures early { IfErr result (IsEarly (IsSome (F.holds folder.old))) }
 {
     let table = load_table(alloc, folder, word, number)?;
     match tables.push(table) {
@@ -120,9 +121,10 @@ pub fn load_tables<F: Folder>(
     ensures told { IfOk result (λ tables. (files : List File) → F.holds folder.old ≡ Some files
         → tables_read 0 files (map table_of_word (map string_bytes words.now)) ≡ Ok tables) }
     ensures refused { IfErr result (λ s. (files : List File) → F.holds folder.old ≡ Some files
-        → MayRefuse (Rose (F.faults folder.old) (F.faults folder.new)) (tables_read 0 files (map table_of_word (map string_bytes words.now))) s) }
+        → MayRefuse (λ f. Rose (F.faults folder.old) (F.faults folder.new) × ReachedTable files (map table_of_word (map string_bytes words.now)) f)
+        (tables_read 0 files (map table_of_word (map string_bytes words.now))) s) }
     ensures read { IfErr result (λ s. (f : FileOf) → s ≡ status.Read f → Rose (F.faults folder.old) (F.faults folder.new)) }
-    ensures early { IfErr result IsEarly }
+    ensures early { IfErr result (IsEarly (IsSome (F.holds folder.old))) }
 {
     let mut tables = Tables::new(alloc);
     for (index, word) in words.iter().enumerate() {

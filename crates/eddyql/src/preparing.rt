@@ -1,7 +1,7 @@
 //! From files to a plan: the script is read first, then the tables in order, then the columns are
 //! bound.
 
-ghost use Rattle.std.specs.Prelude.{◌≡◌, ◌<◌, ◌≤◌, ℕ, List, Some, None, Ok, IfOk, IfErr, OnOk, All, map, length};
+ghost use Rattle.std.specs.Prelude.{◌≡◌, ◌<◌, ◌≤◌, ℕ, List, Some, None, Ok, IsSome, IfOk, IfErr, OnOk, All, map, length};
 ghost use Rattle.std.specs.String.{string_bytes};
 ghost use Rattle.sq_value.specs.Relation.{Relation};
 ghost use Rattle.outside.specs.Files.{File};
@@ -9,8 +9,8 @@ ghost use Rattle.outside.specs.Faults.{NeverFalls, Rose};
 ghost use Rattle.eddyql.specs.Words.{table_of_word};
 ghost use Rattle.eddyql.specs.Script.{early_script};
 ghost use Rattle.eddyql.specs.Seen.{join_seen};
-ghost use Rattle.eddyql.specs.Outcome.{or_refuse, block_bound, plan_of};
-ghost use Rattle.eddyql.specs.Refusal.{MayRefuse, IsEarly};
+ghost use Rattle.eddyql.specs.Outcome.{or_refuse, block_bound, plan_of, Reached};
+ghost use Rattle.eddyql.specs.Refusal.{MayRefuse, IsEarly, never};
 ghost use Rattle.eddyql.specs.Loaded.{IsIntegerTable};
 ghost use Rattle.eddyql.specs.Runnable.{IsRunnable};
 ghost use Rattle.eddyql.specs.declared.status.FileOf.{FileOf};
@@ -32,8 +32,8 @@ fn find_query<'s>(alloc: Global, tables: &[String], text: &'s [u8]) -> Result<Jo
     ensures ok { IfOk result (λ query. early_script (map table_of_word (map string_bytes tables.now)) text.now ≡ Some (join_seen query)) }
     ensures left { IfOk result (λ query. query.left < length tables.now) }
     ensures right { IfOk result (λ query. query.right < length tables.now) }
-    ensures refused { IfErr result (MayRefuse ⊥ (or_refuse (status.Script (Syntax 0)) (early_script (map table_of_word (map string_bytes tables.now)) text.now))) }
-    ensures early { IfErr result IsEarly }
+    ensures refused { IfErr result (MayRefuse never (or_refuse (status.Script (Syntax 0)) (early_script (map table_of_word (map string_bytes tables.now)) text.now))) }
+    ensures early { IfErr result (IsEarly ⊥) }
 {
     match read_script(alloc, tables, text) {
         Ok(Some(query)) => Ok(query),
@@ -50,8 +50,8 @@ fn bind_query(alloc: Global, query: &JoinQuery<'_>, tables: &Tables) -> Result<B
     requires left { query.now.left < length tables.now }
     requires right { query.now.right < length tables.now }
     ensures ok { IfOk result (λ block. block_bound (join_seen query.now) tables.now ≡ Ok block) }
-    ensures refused { IfErr result (MayRefuse ⊥ (block_bound (join_seen query.now) tables.now)) }
-    ensures early { IfErr result IsEarly }
+    ensures refused { IfErr result (MayRefuse never (block_bound (join_seen query.now) tables.now)) }
+    ensures early { IfErr result (IsEarly ⊥) }
 {
     let left = query.left as u32;
     let right = query.right as u32;
@@ -91,9 +91,11 @@ pub fn prepare<F: Folder>(
         → plan_of record { script = script.now; tables = map table_of_word (map string_bytes tables.now) } files ≡ Ok plan) }
     ensures runnable { IfOk result (λ plan. IsRunnable plan.block plan.tables) }
     ensures refused { IfErr result (λ s. (files : List File) → F.holds folder.old ≡ Some files
-        → MayRefuse (Rose (F.faults folder.old) (F.faults folder.new)) (plan_of record { script = script.now; tables = map table_of_word (map string_bytes tables.now) } files) s) }
+        → MayRefuse (λ f. Rose (F.faults folder.old) (F.faults folder.new)
+        × Reached record { script = script.now; tables = map table_of_word (map string_bytes tables.now) } files f)
+        (plan_of record { script = script.now; tables = map table_of_word (map string_bytes tables.now) } files) s) }
     ensures read { IfErr result (λ s. (f : FileOf) → s ≡ status.Read f → Rose (F.faults folder.old) (F.faults folder.new)) }
-    ensures early { IfErr result IsEarly }
+    ensures early { IfErr result (IsEarly (IsSome (F.holds folder.old))) }
 {
     let text = load(alloc, folder, script, FileOf::Script)?;
     let query = find_query(alloc, tables, text.as_slice())?;

@@ -1,6 +1,6 @@
 //! The top call: from words, files and an output to a status.
 
-ghost use Rattle.std.specs.Prelude.{◌≡◌, ◌⊎◌, ℕ, List, Some, None, Ok, IsOkAnd, map, take};
+ghost use Rattle.std.specs.Prelude.{◌≡◌, ◌⊎◌, ℕ, List, Some, None, Ok, IsSome, IsOkAnd, map, take};
 ghost use Rattle.std.specs.String.{string_bytes};
 ghost use Rattle.outside.specs.Files.{File};
 ghost use Rattle.outside.specs.Faults.{NeverFalls, Rose};
@@ -9,8 +9,8 @@ ghost use Rattle.bag_meaning.specs.Bag.{bag};
 ghost use Rattle.eddyql.specs.Words.{command};
 ghost use Rattle.eddyql.specs.Join.{no_meaning};
 ghost use Rattle.eddyql.specs.Writing.{HasRows, rows_of_combo};
-ghost use Rattle.eddyql.specs.Outcome.{outcome, text_of};
-ghost use Rattle.eddyql.specs.Run.{MayEnd, status_of, text_due, IsLate};
+ghost use Rattle.eddyql.specs.Outcome.{outcome, text_of, ReachedBy};
+ghost use Rattle.eddyql.specs.Run.{MayEnd, status_of, text_due, IsLate, IsBeforeOutput};
 ghost use Rattle.eddyql.specs.Runnable.{IsRunnable};
 ghost use Rattle.eddyql.specs.declared.status.FileOf.{FileOf};
 
@@ -84,18 +84,21 @@ pub fn run<F: Folder, O: Sink, N: Sink>(
 
     // Each status has its cause.
     ensures causes { (files : List File) → F.holds folder.old ≡ Some files
-        → MayEnd (Rose (F.faults folder.old) (F.faults folder.new)) (Rose (O.faults out.old) (O.faults out.new)) (outcome (map string_bytes words.now) files) result }
+        → MayEnd (λ file. Rose (F.faults folder.old) (F.faults folder.new) × ReachedBy (map string_bytes words.now) files file)
+        (Rose (O.faults out.old) (O.faults out.new)) (outcome (map string_bytes words.now) files) result }
     ensures usage_only { result ≡ Status.Usage → command (map string_bytes words.now) ≡ None }
     ensures usage { command (map string_bytes words.now) ≡ None → result ≡ Status.Usage }
     ensures read { (file : FileOf) → result ≡ Status.Read file → Rose (F.faults folder.old) (F.faults folder.new) }
     ensures write { result ≡ Status.Write → Rose (O.faults out.old) (O.faults out.new) }
+    ensures not_found { (file : FileOf) → result ≡ Status.NotFound file → IsSome (F.holds folder.old) }
 
     // Without a fault the status is the outcome's, or want of memory.
     ensures complete { (files : List File) → F.holds folder.old ≡ Some files
         → ¬ (Rose (F.faults folder.old) (F.faults folder.new)) → ¬ (Rose (O.faults out.old) (O.faults out.new))
         → (result ≡ status_of (outcome (map string_bytes words.now) files)) ⊎ (result ≡ Status.Memory) }
 
-    // Nothing but a front of the text that is due is written.
+    // Nothing but a front of the text that is due is written, and nothing at all by a refusal before the output.
+    ensures nothing { IsBeforeOutput result → O.written out.new ≡ O.written out.old }
     ensures front { (files : List File) → F.holds folder.old ≡ Some files
         → AddsFront (O.written out.old) (O.written out.new) (text_due (outcome (map string_bytes words.now) files)) }
 {

@@ -1,4 +1,5 @@
 use Rattle.std.proofs.Common.{◌≡◌, ℕ, List, Option, Some, Ok, Err, refl, sym, ap, subst, ◌∙◌}
+use Rattle.std.specs.Prelude.{IsSome}
 use Rattle.std.proofs.lemmas.Result.{IfOk-weaker, IfErr-weaker}
 use Rattle.outside.specs.Files.{File, Gives}
 use Rattle.eddyql.specs.TableText.{early_table}
@@ -6,7 +7,7 @@ use Rattle.eddyql.specs.Words.{table_of_word}
 use Rattle.eddyql.specs.Outcome.{or_refuse, table_read}
 use Rattle.eddyql.specs.declared.status.Status.TheVariants as status
 use Rattle.eddyql.specs.declared.status.TableFault.TheVariants.{NoHeading}
-use Rattle.eddyql.proofs.OutcomeLemmas.{table_read-loaded, early_table-integers, MayRefuse-same}
+use Rattle.eddyql.proofs.OutcomeLemmas.{table_read-loaded, early_table-integers, MayRefuse-same, IsEarly-weaker}
 use Rattle.eddyql.proofs.loading.load_table.Given as given
 use Rattle.eddyql.proofs.loading.load_table.Goals as goal
 
@@ -29,4 +30,8 @@ returns-in-Ok-clause-integers g c = IfOk-weaker c.table_of.result _ _ (λ t e. e
 pub returns-in-Ok-clause-refused : goal.returns-in-Ok-clause-refused
 returns-in-Ok-clause-refused g c =
     IfErr-weaker c.table_of.result _ _
-    (λ s h. λ files told. MayRefuse-same _ _ _ _ s (read g c files told) (λ (x : ⊥). absurd x) h) c.table_of.ensures.refused
+    (λ s h. λ files told. MayRefuse-same _ _ _ _ s (read g c files told) (λ f (x : ⊥). absurd x) h) c.table_of.ensures.refused
+
+pub returns-in-Ok-clause-early : goal.returns-in-Ok-clause-early
+returns-in-Ok-clause-early g c =
+    IfErr-weaker c.table_of.result _ _ (λ s h. IsEarly-weaker ⊥ (IsSome (g.F.Folder.holds c.args.folder.now)) s (λ (x : ⊥). absurd x) h) c.table_of.ensures.early

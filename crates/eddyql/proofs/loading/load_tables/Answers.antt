@@ -1,5 +1,5 @@
 use Rattle.std.proofs.Common.{◌≡◌, ℕ, ◌+◌, ◌<◌, List, [], ◌∷◌, ◌++◌, Option, Some, Ok, Result, length, take, get_or, map, refl, sym, ap, subst, ◌∙◌, arith}
-use Rattle.std.specs.Prelude.{All}
+use Rattle.std.specs.Prelude.{All, IsOk}
 use Rattle.std.specs.String.{string_bytes}
 use Rattle.std.proofs.lemmas.List.{length-append}
 use Rattle.std.proofs.lemmas.List.Elements.{All-nil, All-push, All-same}
@@ -9,11 +9,13 @@ use Rattle.outside.specs.Faults.{NeverFalls, Rose}
 use Rattle.outside.proofs.Laws.{Rose-earlier}
 use Rattle.sq_value.specs.Relation.{Relation}
 use Rattle.eddyql.specs.Words.{TableWord, table_of_word}
-use Rattle.eddyql.specs.Outcome.{tables_read, table_read}
+use Rattle.eddyql.specs.Outcome.{tables_read, table_read, ReachedTable}
 use Rattle.eddyql.specs.Refusal.{MayRefuse}
 use Rattle.eddyql.specs.Loaded.{IsIntegerTable, AddsTable}
+use Rattle.eddyql.specs.declared.status.FileOf.{FileOf}
+use Rattle.eddyql.specs.declared.status.FileOf.TheVariants as file
 use Rattle.eddyql.specs.declared.status.Status.{Status}
-use Rattle.eddyql.proofs.OutcomeLemmas.{tables_read-more, MayRefuse-next, MayRefuse-same, word_told, length-table_words}
+use Rattle.eddyql.proofs.OutcomeLemmas.{tables_read-more, MayRefuse-next, MayRefuse-same, reads_weaker, next_reached, word_told, length-table_words}
 use Rattle.eddyql.proofs.loading.load_tables.Goals as goal
 
 pub loop-index-init : goal.loop-index-init
@@ -34,13 +36,13 @@ returns-in_err-push_table-clause-refused g c =
     let ws = map table_of_word (map string_bytes c.args.words.now) in
     let within : c.loop-index.index < length ws = omega (arith, length-table_words string_bytes c.args.words.now, c.loop-index-test.true) in
     let word = word_told string_bytes c.args.words.now c.loop-index.index c.index-words-index.result c.as_str.result.now c.loop-index-test.true c.index-words-index.is c.as_str.ensures.value in
-    let rises = λ (r : Rose (g.F.Folder.faults c.loop-index.folder) (g.F.Folder.faults c.push_table.new.folder)).
-    Rose-earlier (g.F.Folder.faults c.args.folder.now) (g.F.Folder.faults c.loop-index.folder) (g.F.Folder.faults c.push_table.new.folder) c.loop-index.invariant.counts r in
+    let rises = Rose-earlier (g.F.Folder.faults c.args.folder.now) (g.F.Folder.faults c.loop-index.folder) (g.F.Folder.faults c.push_table.new.folder) c.loop-index.invariant.counts in
     rw (p.1, p.2)
     (λ files told.
     MayRefuse-next _ files ws c.loop-index.index (table_of_word c.as_str.result.now) c.loop-index.tables c.in_err-push_table.field-0.0 within
     (c.loop-index.invariant.told files told)
-    (MayRefuse-same _ _ _ _ c.in_err-push_table.field-0.0 (ap (table_read c.loop-index.index files) (sym word)) rises
+    (MayRefuse-same _ _ _ _ c.in_err-push_table.field-0.0 (ap (table_read c.loop-index.index files) (sym word))
+    (reads_weaker _ _ (λ (f : FileOf). f ≡ file.Table c.loop-index.index) (ReachedTable files ws) rises (next_reached files ws c.loop-index.index c.loop-index.tables (c.loop-index.invariant.told files told)))
     (c.in_err-push_table.ensures.refused files (c.loop-index.invariant.keeps ∙ told))))
 
 pub loop-index-preserved : goal.loop-index-preserved

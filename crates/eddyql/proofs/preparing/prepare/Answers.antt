@@ -9,10 +9,10 @@ use Rattle.sq_expr.specs.declared.block.Block.{Block}
 use Rattle.eddyql.specs.Words.{Command, table_of_word}
 use Rattle.eddyql.specs.Script.{early_script}
 use Rattle.eddyql.specs.Seen.{join_seen}
-use Rattle.eddyql.specs.Outcome.{◌>>=◌, or_refuse, query_read}
+use Rattle.eddyql.specs.Outcome.{◌>>=◌, or_refuse, query_read, Reached, ReachedTable}
 use Rattle.eddyql.specs.declared.status.Status.{Status}
-use Rattle.eddyql.proofs.OutcomeLemmas.{MayRefuse-same}
-use Rattle.eddyql.proofs.PlanLemmas.{query_read-refused, query_found, query_refused, plan_found, plan_refused-query, plan_refused-tables, plan_refused-block, IsRunnable-bound}
+use Rattle.eddyql.proofs.OutcomeLemmas.{MayRefuse-same, reads_weaker}
+use Rattle.eddyql.proofs.PlanLemmas.{query_read-refused, query_found, query_refused, plan_found, plan_refused-query, plan_refused-tables, plan_refused-block, IsRunnable-bound, Reached-table}
 use Rattle.eddyql.proofs.preparing.prepare.Given as given
 use Rattle.eddyql.proofs.preparing.prepare.Goals as goal
 
@@ -20,7 +20,7 @@ pub returns-in_err-text-clause-refused : goal.returns-in_err-text-clause-refused
 returns-in_err-text-clause-refused g c =
     let p = err_from_is_err_and c.from_residual.result c.from_residual.ensures.1 in
     rw (p.1, p.2)
-    (λ files told. plan_refused-query _ files _ c.in_err-text.field-0.0 (query_read-refused _ files _ _ c.in_err-text.field-0.0 told c.in_err-text.ensures.refused))
+    (λ files told. plan_refused-query _ files _ c.in_err-text.field-0.0 (query_read-refused _ files _ _ _ c.in_err-text.field-0.0 told (λ r. (r, tt)) c.in_err-text.ensures.refused))
 
 pub returns-in_err-query-clause-refused : goal.returns-in_err-query-clause-refused
 returns-in_err-query-clause-refused g c =
@@ -34,13 +34,16 @@ pub returns-in_err-relations-clause-refused : goal.returns-in_err-relations-clau
 returns-in_err-relations-clause-refused g c =
     let p = err_from_is_err_and c.from_residual-in_err-relations.result c.from_residual-in_err-relations.ensures.1 in
     let command : Command = record { script = c.args.script.now; tables = map table_of_word (map string_bytes c.args.tables.now) } in
-    let rises = λ (r : Rose (g.F.Folder.faults c.load.new.folder) (g.F.Folder.faults c.load_tables.new.folder)).
-    Rose-earlier (g.F.Folder.faults c.args.folder.now) (g.F.Folder.faults c.load.new.folder) (g.F.Folder.faults c.load_tables.new.folder) c.in_ok-text.ensures.counts r in
+    let rises = Rose-earlier (g.F.Folder.faults c.args.folder.now) (g.F.Folder.faults c.load.new.folder) (g.F.Folder.faults c.load_tables.new.folder) c.in_ok-text.ensures.counts in
     rw (p.1, p.2)
-    (λ files told. plan_refused-tables command files (join_seen c.in_ok-query.query) _ c.in_err-relations.field-0.0
-    (query_found command files (g.F.Folder.holds c.args.folder.now) c.in_ok-text.text.items c.as_slice.result.now (join_seen c.in_ok-query.query)
-    told c.in_ok-text.ensures.gives c.as_slice.ensures.value c.in_ok-query.ensures.ok)
-    (MayRefuse-same _ _ _ _ c.in_err-relations.field-0.0 refl rises (c.in_err-relations.ensures.refused files (c.in_ok-text.ensures.keeps ∙ told))))
+    (λ files told.
+    let found : query_read command files ≡ Ok (join_seen c.in_ok-query.query) =
+    query_found command files (g.F.Folder.holds c.args.folder.now) c.in_ok-text.text.items c.as_slice.result.now (join_seen c.in_ok-query.query)
+    told c.in_ok-text.ensures.gives c.as_slice.ensures.value c.in_ok-query.ensures.ok in
+    plan_refused-tables command files (join_seen c.in_ok-query.query) _ c.in_err-relations.field-0.0 found
+    (MayRefuse-same _ _ _ _ c.in_err-relations.field-0.0 refl
+    (reads_weaker _ _ (ReachedTable files command.tables) (Reached command files) rises (λ f. Reached-table command files (join_seen c.in_ok-query.query) f found))
+    (c.in_err-relations.ensures.refused files (c.in_ok-text.ensures.keeps ∙ told))))
 
 pub returns-in_err-block-clause-refused : goal.returns-in_err-block-clause-refused
 returns-in_err-block-clause-refused g c =

@@ -6,12 +6,12 @@ use Rattle.outside.specs.Faults.{Rose}
 use Rattle.outside.specs.Files.{File}
 use Rattle.outside.specs.Told.{Adds, AddsFront}
 use Rattle.eddyql.specs.Words.{Command, command, table_of_word}
-use Rattle.eddyql.specs.Outcome.{outcome, text_of, plan_of}
+use Rattle.eddyql.specs.Outcome.{outcome, text_of, plan_of, ReachedBy}
 use Rattle.eddyql.specs.Refusal.{MayRefuse}
 use Rattle.eddyql.specs.Run.{MayEnd, status_of, text_due}
 use Rattle.eddyql.specs.declared.plan.Plan.{Plan}
 use Rattle.eddyql.specs.declared.status.Status.{Status}
-use Rattle.eddyql.proofs.RunLemmas.{IsRunOf, run_of, no_command-false, no_command-none, outcome-usage, outcome_of_run, end_of_refused, MayEnd-late, ends_by_outcome}
+use Rattle.eddyql.proofs.RunLemmas.{IsRunOf, run_of, no_command-false, no_command-none, outcome-usage, outcome_of_run, end_of_refused, MayEnd-late, ends_by_outcome, not_read}
 use Rattle.eddyql.proofs.run.run.Given as given
 use Rattle.eddyql.proofs.run.run.Goals as goal
 
@@ -64,7 +64,7 @@ returns-in-Ok-clause-complete g c =
     λ files told a b.
     let due = outcome_of_run (map string_bytes c.args.words.now) (string_bytes c.in-Some.script.now) c.as_str.result.now (map string_bytes c.in-Some.tables.now) files c.in-Ok.plan
     r c.as_str.ensures.value (c.in-Ok.ensures.told files told) in
-    ends_by_outcome _ _ _ c.answer.result (MayEnd-late _ _ _ (text_of c.in-Ok.plan) c.answer.result due c.answer.ensures.late c.answer.ensures.write) a b
+    ends_by_outcome (λ f. Rose (g.F.Folder.faults c.args.folder.now) (g.F.Folder.faults c.prepare.new.folder) × ReachedBy (map string_bytes c.args.words.now) files f) _ _ c.answer.result (MayEnd-late _ _ _ (text_of c.in-Ok.plan) c.answer.result due c.answer.ensures.late c.answer.ensures.write) (not_read _ _ a) b
 
 pub returns-in-Ok-clause-front : goal.returns-in-Ok-clause-front
 returns-in-Ok-clause-front g c =
@@ -79,14 +79,15 @@ pub returns-in-Err-clause-causes : goal.returns-in-Err-clause-causes
 returns-in-Err-clause-causes g c =
     let r = run_of string_bytes c.args.words.now c.in-Some.script.now c.in-Some.tables.now c.is_command.result c.is_command.ensures c.if-not-is_command.false c.in-Some.ensures.cases.0 in
     λ files told.
-    end_of_refused (map string_bytes c.args.words.now) (string_bytes c.in-Some.script.now) c.as_str.result.now (map string_bytes c.in-Some.tables.now) files _ _ c.in-Err.refusal
+    end_of_refused (map string_bytes c.args.words.now) (string_bytes c.in-Some.script.now) c.as_str.result.now (map string_bytes c.in-Some.tables.now) files _ _ _ c.in-Err.refusal
     r c.as_str.ensures.value c.in-Err.ensures.early (c.in-Err.ensures.refused files told)
 
 pub returns-in-Err-clause-complete : goal.returns-in-Err-clause-complete
 returns-in-Err-clause-complete g c =
     let r = run_of string_bytes c.args.words.now c.in-Some.script.now c.in-Some.tables.now c.is_command.result c.is_command.ensures c.if-not-is_command.false c.in-Some.ensures.cases.0 in
     λ files told a b.
-    ends_by_outcome (Rose (g.F.Folder.faults c.args.folder.now) (g.F.Folder.faults c.prepare.new.folder)) (Rose (g.O.Sink.faults c.args.out.now) (g.O.Sink.faults c.args.out.now))
+    ends_by_outcome (λ f. Rose (g.F.Folder.faults c.args.folder.now) (g.F.Folder.faults c.prepare.new.folder) × ReachedBy (map string_bytes c.args.words.now) files f)
+    (Rose (g.O.Sink.faults c.args.out.now) (g.O.Sink.faults c.args.out.now))
     (outcome (map string_bytes c.args.words.now) files) c.in-Err.refusal
-    (end_of_refused (map string_bytes c.args.words.now) (string_bytes c.in-Some.script.now) c.as_str.result.now (map string_bytes c.in-Some.tables.now) files _ _ c.in-Err.refusal
-    r c.as_str.ensures.value c.in-Err.ensures.early (c.in-Err.ensures.refused files told)) a b
+    (end_of_refused (map string_bytes c.args.words.now) (string_bytes c.in-Some.script.now) c.as_str.result.now (map string_bytes c.in-Some.tables.now) files _ _ _ c.in-Err.refusal
+    r c.as_str.ensures.value c.in-Err.ensures.early (c.in-Err.ensures.refused files told)) (not_read _ _ a) b
