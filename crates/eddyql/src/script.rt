@@ -106,6 +106,7 @@ fn place_of(tables: &[String], name: &str) -> Option<usize>
         .position(|word| same_name(name_of(word.as_str()), name))
 }
 
+// Whether there are as many tokens as the form has, and the first are `SELECT * FROM a , b WHERE`.
 fn begins_join(tokens: &[Token]) -> bool
     ensures { result ≡ (length tokens.now == 14)
         && spec.is_word (codes "SELECT") (slice_get (map token_seen tokens.now) 0) && spec.is_mark 42 (slice_get (map token_seen tokens.now) 1)
@@ -123,6 +124,7 @@ fn begins_join(tokens: &[Token]) -> bool
         && is_word(tokens, 6, "WHERE")
 }
 
+// Whether the tokens behind these are `a . c = b . d`.
 fn compares_columns(tokens: &[Token]) -> bool
     ensures { result ≡ spec.is_name (slice_get (map token_seen tokens.now) 7) && spec.is_mark 46 (slice_get (map token_seen tokens.now) 8)
         && spec.is_name (slice_get (map token_seen tokens.now) 9) && spec.is_mark 61 (slice_get (map token_seen tokens.now) 10)
@@ -156,7 +158,7 @@ fn is_join_form(tokens: &[Token]) -> bool
     are_same(tokens, 7, 3) && are_same(tokens, 11, 5)
 }
 
-// Whether a text may be a script: it has at most `MAX_BYTES`, and they are UTF-8.
+// Whether a text may be a script at all: it has at most `MAX_BYTES`, and they are UTF-8.
 fn is_text(text: &[u8]) -> bool
     ensures { not result ≡ nat_lt 67108864 (length text.now) || not (utf8_valid_len text.now == length text.now) }
 {
