@@ -104,6 +104,12 @@ fn integers_are_read(rt: HostRuntime) {
 }
 
 #[test]
+fn want_of_memory_has_a_text(rt: HostRuntime) -> Result<(), Fail> {
+    assert_eq!(rt; format!(in rt.alloc(); "{Memory}")?.as_str(), "out of memory");
+    Ok(())
+}
+
+#[test]
 fn names_differ_but_for_ascii_case(rt: HostRuntime) {
     let cases = [
         ("name", "NAME", true),
