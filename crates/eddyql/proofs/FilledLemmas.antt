@@ -1,9 +1,9 @@
 -- A table that its file's records fill, a row at a time.
-use Rattle.std.proofs.Common.{◌≡◌, ℕ, suc, ◌<◌, Bool, true, false, List, [], ◌∷◌, length, map, Option, Some, None, cond, refl, sym, ap, ◌∙◌, arith, zero-add}
+use Rattle.std.proofs.Common.{◌≡◌, ℕ, suc, ◌+◌, ◌<◌, Bool, true, false, List, [], ◌∷◌, ◌++◌, length, map, Option, Some, None, cond, refl, sym, ap, ◌∙◌, arith, append_assoc, zero-add}
 use Rattle.std.specs.Prelude.{◌&&◌, nat_lt, nat_le}
 use Rattle.std.specs.List.{list_all}
 use Rattle.std.proofs.lemmas.Bool.{and_right, le-ltb, lt-ltb}
-use Rattle.std.proofs.lemmas.List.{length-map}
+use Rattle.std.proofs.lemmas.List.{length-map, length_push}
 use Rattle.sq_value.specs.Relation.{Relation, IsRow}
 use Rattle.sq_value.specs.declared.table.Column.{Column}
 use Rattle.sq_value.specs.declared.value.ColType.TheVariants.{Integer}
@@ -21,6 +21,26 @@ IsRow-integers [] (f ∷ fs) all e = absurd (omega arith)
 IsRow-integers (c ∷ cs) [] all e = absurd (omega arith)
 IsRow-integers (c ∷ cs) (f ∷ fs) all e =
     IsRow-suc c cs f fs (all 0 c (omega arith)) (IsRow-integers cs fs (λ k d h. all (suc k) d (omega arith)) (omega arith))
+
+-- a table with one more row of integers
+abbrev pub with_row : Relation → List (List ℕ) → Relation
+with_row t fields = record t { rows = t.rows ++ (map integer_of fields ∷ []) }
+
+-- a record in form goes from the records to the table
+filled-row : (t : Relation) (f : List (List ℕ)) (rest : List (List (List ℕ))) → is_integer_row (length t.columns) f ≡ true
+    → filled t (f ∷ rest) ≡ filled (with_row t f) rest
+filled-row t f rest e =
+    let longer : length t.rows + length (f ∷ rest) ≡ length (with_row t f).rows + length rest = omega (arith, length_push t.rows (map integer_of f)) in
+    let rows : t.rows ++ map (map integer_of) (f ∷ rest) ≡ (with_row t f).rows ++ map (map integer_of) rest
+    = sym (append_assoc t.rows (map integer_of f ∷ []) (map (map integer_of) rest)) in
+    rw (e, longer, rows) refl
+
+-- the same after a read of that record
+pub filled-more : (t u : Relation) (rows more : List (List (List ℕ))) (found : Bool) (f : List (List ℕ)) → GivesNext rows found f more → found ≡ true
+    → is_integer_row (length t.columns) f ≡ true → u ≡ with_row t f → filled u more ≡ filled t rows
+filled-more t u rows more true f g found e is =
+    ap (λ (v : Relation). filled v more) is ∙ sym (filled-row t f more e) ∙ ap (filled t) (sym g)
+filled-more t u rows more false f g found e is = absurd cc
 
 -- the columns of a heading without rows
 abbrev pub empty_table : List (List ℕ) → Relation

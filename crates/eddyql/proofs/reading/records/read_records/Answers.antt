@@ -51,6 +51,6 @@ returns-clause-ok c =
     IsBegun-read (records_left c.args.reader.now) c.in_ok-next_row.field-0 (fields_of c.next_row.new.row) (records_left c.next_row.new.reader)
     c.in_ok-columns.columns.items c.in_ok-new.field-0
     c.in_ok-next_row.ensures.gives c.if-not-branch.false c.in_ok-columns.ensures.fits c.in_ok-columns.ensures.ok c.in_ok-new.ensures in
-    let some : 0 < length c.in_ok-table.table.rows = omega (arith, c.rows.ensures) in
+    let some : 0 < length c.in_ok-table.table.rows = omega (arith, c.rows.ensures.count) in
     table_of_records-filled (records_left c.args.reader.now) (fields_of c.next_row.new.row) (records_left c.next_row.new.reader) c.in_ok-new.field-0 c.in_ok-table.table
     begun c.in_ok-table.ensures.ok some
