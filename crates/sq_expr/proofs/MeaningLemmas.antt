@@ -8,11 +8,9 @@ use Rattle.sq_value.specs.declared.value.Value.{Value}
 use Rattle.sq_value.specs.declared.value.Truth.{Truth}
 use Rattle.sq_value.specs.declared.value.Truth.TheVariants.{False, Unknown, True}
 use Rattle.sq_value.specs.declared.value.Cmp.{Cmp}
-use Rattle.sq_value.specs.declared.value.Cmp.TheVariants as cmp
 use Rattle.sq_expr.specs.Meaning.{truth_of, truth_at_level, side_value, least, greatest}
 use Rattle.sq_expr.specs.declared.cond.ColumnOf.{ColumnOf}
 use Rattle.sq_expr.specs.declared.cond.Side.{Side}
-use Rattle.sq_expr.specs.declared.cond.Side.TheVariants as side
 use Rattle.sq_expr.specs.declared.cond.Cond.{Cond, fold_out-Cond}
 use Rattle.sq_expr.specs.declared.cond.Cond.TheVariants.{Compare}
 use Rattle.sq_expr.specs.declared.cond.Cond.TheVariants as variants

@@ -33,6 +33,9 @@ fn numbers(alloc: Global) -> Result<Tables, Memory>
     Ok(tables)
 }
 
+/// Takes what threads may share and hand to each other.
+fn crosses_threads<T: Send + Sync>(_value: &T) {}
+
 /// The truth of the equality of the first columns of aliases 0 and 1, both of table 0, at these rows.
 fn equal<F: Predicates>(tables: &Tables, left: u32, right: u32, functions: &F) -> Truth
     requires { IsColumnEquality tables.now (replicate 12 0) (left ∷ right ∷ replicate 10 0)
@@ -55,7 +58,9 @@ fn equal<F: Predicates>(tables: &Tables, left: u32, right: u32, functions: &F) -
         alias: 1,
         column: 0,
     });
-    Cond::Compare(left, Cmp::Eq, right).truth(&chosen, functions)
+    let condition = Cond::Compare(left, Cmp::Eq, right);
+    crosses_threads(&condition);
+    condition.truth(&chosen, functions)
 }
 
 #[test]
