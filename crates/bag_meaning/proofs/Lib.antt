@@ -4,5 +4,6 @@ pub mod ProductLemmas
 pub mod CreditLemmas
 pub mod ProductRange
 pub mod RisingLemmas
+pub mod PairLemmas
 pub mod AnswerLemmas
 mod WorkedRows

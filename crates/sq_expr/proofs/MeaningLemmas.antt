@@ -1,15 +1,17 @@
 -- The truth of a condition, case by case.
-use Rattle.std.proofs.Common.{◌≡◌, ℕ, refl, ap}
-use Rattle.sq_value.specs.Comparison.{compared}
+use Rattle.std.proofs.Common.{◌≡◌, ℕ, Bool, List, [], ◌∷◌, refl, ap, ◌∙◌}
+use Rattle.std.specs.Prelude.{◌&&◌, map}
+use Rattle.std.specs.List.{list_all}
+use Rattle.sq_value.specs.Comparison.{compared, two_valued}
+use Rattle.sq_value.specs.Truth.{conjoined, negated, is_truth}
 use Rattle.sq_value.specs.declared.value.Value.{Value}
 use Rattle.sq_value.specs.declared.value.Truth.{Truth}
+use Rattle.sq_value.specs.declared.value.Truth.TheVariants.{False, Unknown, True}
 use Rattle.sq_value.specs.declared.value.Cmp.{Cmp}
-use Rattle.sq_value.specs.declared.value.Cmp.TheVariants as cmp
-use Rattle.sq_expr.specs.Meaning.{truth_of, truth_at_level, side_value}
+use Rattle.sq_expr.specs.Meaning.{truth_of, truth_at_level, side_value, least, greatest}
 use Rattle.sq_expr.specs.declared.cond.ColumnOf.{ColumnOf}
 use Rattle.sq_expr.specs.declared.cond.Side.{Side}
-use Rattle.sq_expr.specs.declared.cond.Side.TheVariants as side
-use Rattle.sq_expr.specs.declared.cond.Cond.{fold_out-Cond}
+use Rattle.sq_expr.specs.declared.cond.Cond.{Cond, fold_out-Cond}
 use Rattle.sq_expr.specs.declared.cond.Cond.TheVariants.{Compare}
 use Rattle.sq_expr.specs.declared.cond.Cond.TheVariants as variants
 
@@ -19,3 +21,41 @@ pub truth_of-Compare : (gives : ℕ → Value → Value → Truth) (at : ColumnO
 unfolding truth_of
 truth_of-Compare gives at x how y =
     rw (fold_out-Cond Truth (truth_at_level gives at) (Compare x how y), variants.outs-Compare x how y) refl
+
+-- a conjunction is the least of its parts, and a disjunction the greatest
+pub truth_of-All : (gives : ℕ → Value → Value → Truth) (at : ColumnOf → Value) (parts : List Cond)
+    → truth_of gives at (variants.All parts) ≡ least (map (truth_of gives at) parts)
+unfolding truth_of
+truth_of-All gives at parts =
+    rw (fold_out-Cond Truth (truth_at_level gives at) (variants.All parts), variants.outs-All parts) refl
+
+pub truth_of-Any : (gives : ℕ → Value → Value → Truth) (at : ColumnOf → Value) (parts : List Cond)
+    → truth_of gives at (variants.Any parts) ≡ greatest (map (truth_of gives at) parts)
+unfolding truth_of
+truth_of-Any gives at parts =
+    rw (fold_out-Cond Truth (truth_at_level gives at) (variants.Any parts), variants.outs-Any parts) refl
+
+-- negation, and the question whether a truth is the named one
+pub truth_of-Not : (gives : ℕ → Value → Value → Truth) (at : ColumnOf → Value) (part : Cond)
+    → truth_of gives at (variants.Not part) ≡ negated (truth_of gives at part)
+unfolding truth_of
+truth_of-Not gives at part =
+    rw (fold_out-Cond Truth (truth_at_level gives at) (variants.Not part), variants.outs-Not part) refl
+
+pub truth_of-Is : (gives : ℕ → Value → Value → Truth) (at : ColumnOf → Value) (part : Cond) (named : Truth)
+    → truth_of gives at (variants.Is part named) ≡ two_valued (is_truth (truth_of gives at part) named)
+unfolding truth_of
+truth_of-Is gives at part named =
+    rw (fold_out-Cond Truth (truth_at_level gives at) (variants.Is part named), variants.outs-Is part named) refl
+
+-- a conjunction is True where each of its parts is
+pub is_truth-least : (ts : List Truth) → is_truth (least ts) True ≡ list_all (λ t. is_truth t True) ts
+is_truth-least [] = refl
+is_truth-least (t ∷ ts) = both t (least ts) ∙ ap (λ (b : Bool). is_truth t True && b) (is_truth-least ts)
+  where
+    both : (x y : Truth) → is_truth (conjoined x y) True ≡ (is_truth x True && is_truth y True)
+    both False y = refl
+    both Unknown False = refl
+    both Unknown Unknown = refl
+    both Unknown True = refl
+    both True y = refl

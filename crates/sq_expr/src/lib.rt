@@ -6,6 +6,8 @@
 
 mod block;
 mod cond;
+#[cfg(test)]
+mod tests;
 
 pub use block::{Access, AliasUse, Block, Conjunct, OrderKey, OutCol};
 pub use cond::{Arg, Chosen, ColumnOf, Cond, Side, Term};

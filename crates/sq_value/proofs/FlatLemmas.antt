@@ -1,11 +1,11 @@
 -- A flat list of values against the rows that it stands for.
 use Rattle.std.proofs.Common.{◌≡◌, ℕ, zero, suc, ◌+◌, ◌*◌, ◌<◌, ◌≤◌, List, [], ◌∷◌, ◌++◌, length, take, drop, get_or, Option, Some, None, refl, ap, sym, ◌∙◌, arith, subst}
 use Rattle.std.specs.Prelude.{option_and_then, slice_get, All, IfSome}
-use Rattle.std.proofs.lemmas.List.{take-append-le, drop-append-le, length-append, length-drop, take_all, drop_all, get_or-drop, get_or-take, length-take-le}
+use Rattle.std.proofs.lemmas.List.{take-append-le, drop-append-le, length-append, length-drop, take_all}
 use Rattle.std.proofs.lemmas.Option.{slice_get-get_or, slice_get_within, get_or_from_slice_get}
 use Rattle.std.proofs.lemmas.List.Elements.{All-push, All-same}
 use Rattle.std.proofs.lemmas.Nat.{mul-add-lt}
-use Rattle.sq_value.specs.Relation.{Relation, IsRow, HasKind, rows_of}
+use Rattle.sq_value.specs.Relation.{IsRow, HasKind, rows_of}
 use Rattle.sq_value.specs.declared.value.Value.{Value}
 use Rattle.sq_value.specs.declared.table.Column.{Column}
 

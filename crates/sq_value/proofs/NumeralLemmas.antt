@@ -1,15 +1,13 @@
 -- The numeral that a text is, and the number that `parse` reads of it.
-use Rattle.std.proofs.Common.{◌≡◌, ℕ, ◌<◌, ◌≤◌, Bool, true, false, ltb, leb, List, [], ◌∷◌, length, ℤ, pos, negsuc, Result, Ok, Err, refl, sym, subst, arith, cond, w64}
+use Rattle.std.proofs.Common.{◌≡◌, ℕ, ◌≤◌, Bool, true, false, leb, List, [], ◌∷◌, ℤ, pos, negsuc, Ok, Err, refl, sym, subst, arith, cond, w64}
 use Rattle.std.specs.Prelude.{FitsSigned, ◌&&◌}
 use Rattle.std.specs.Char.{is_ascii_digit}
 use Rattle.std.proofs.lemmas.Bool.{false≢true, ltb-true, leb-true, lt-ltb}
 use Rattle.std.proofs.lemmas.Str.{digit_value_digit}
 use Rattle.std.proofs.lemmas.Int.{to_z-of_z}
 use mir.Val.{to_z, of_z}
-use Rattle.std.specs.Result.{OkIff}
-use Rattle.std.specs.Str.Parse.{IsNumeral, AllDigits, ParsesSigned, without_leading_sign, signed_digits_value}
+use Rattle.std.specs.Str.Parse.{IsNumeral, AllDigits, without_leading_sign, signed_digits_value}
 use Rattle.sq_value.specs.Numeral.{all_digits, is_numeral, is_i64, number_read}
-use Rattle.sq_value.specs.declared.integer.IntFault.{IntFault}
 use Rattle.sq_value.specs.declared.integer.IntFault.TheVariants.{NotANumber, OutOfRange}
 
 both : (a b : Bool) → (a && b) ≡ true → (a ≡ true) × (b ≡ true)

@@ -1,7 +1,6 @@
 -- Comparison under SQL-92's three truth values.
-use Rattle.std.specs.Prelude.{ℕ, Bool, true, false, not, ⊤}
+use Rattle.std.specs.Prelude.{Bool, true, false, not, ⊤}
 use Rattle.std.specs.declared.cmp.Ordering.{Ordering}
-use Rattle.std.specs.declared.cmp.Ordering.TheVariants.{Less, Equal, Greater}
 use Rattle.std.specs.Ordering.{int_cmp, nat_cmp, is_eq, is_lt, is_gt}
 use Rattle.std.specs.Cmp.Lexicographic.{slice_cmp}
 use Rattle.sq_value.specs.declared.value.Value.{Value}

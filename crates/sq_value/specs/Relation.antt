@@ -1,5 +1,5 @@
 -- What a table is: typed columns, and a list of rows with one value for each column.
-use Rattle.std.specs.Prelude.{◌≡◌, ℕ, zero, suc, ◌<◌, ◌≤◌, ◌*◌, List, [], ◌∷◌, length, take, drop, Option, option_and_then, slice_get, All, ⊤}
+use Rattle.std.specs.Prelude.{ℕ, zero, suc, ◌<◌, ◌≤◌, List, [], ◌∷◌, length, take, drop, Option, option_and_then, slice_get, All, ⊤}
 use Rattle.sq_value.specs.Name.{IsSameName}
 use Rattle.sq_value.specs.declared.value.Value.{Value}
 use Rattle.sq_value.specs.declared.value.Value.TheVariants as value

@@ -104,6 +104,15 @@ fn integers_are_read(rt: HostRuntime) {
 }
 
 #[test]
+fn want_of_memory_has_a_text(rt: HostRuntime) -> Result<(), Fail> {
+    assert_eq!(rt;
+        format!(in rt.alloc(); "{Memory}")?.as_str(),
+        "out of memory"
+    );
+    Ok(())
+}
+
+#[test]
 fn names_differ_but_for_ascii_case(rt: HostRuntime) {
     let cases = [
         ("name", "NAME", true),
@@ -120,6 +129,9 @@ fn names_differ_but_for_ascii_case(rt: HostRuntime) {
         assert_eq!(rt; same_name(x, y), same, "of {x} and {y}");
     }
 }
+
+/// Takes what threads may share and hand to each other.
+fn crosses_threads<T: Send + Sync>(_value: &T) {}
 
 #[test]
 fn tables_keep_what_they_are_given(rt: HostRuntime) -> Result<(), Fail> {
@@ -144,6 +156,7 @@ fn tables_keep_what_they_are_given(rt: HostRuntime) -> Result<(), Fail> {
     tables.push(table)?;
     assert_eq!(rt; tables.len(), 1);
     assert_eq!(rt; tables.get(0).rows(), 1);
+    crosses_threads(&tables);
     Ok(())
 }
 

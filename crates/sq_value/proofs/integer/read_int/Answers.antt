@@ -1,4 +1,4 @@
-use Rattle.std.proofs.Common.{◌≡◌, Bool, true, sym, ◌∙◌, ap}
+use Rattle.std.proofs.Common.{sym, ◌∙◌, ap}
 use Rattle.sq_value.specs.Numeral as spec
 use Rattle.sq_value.proofs.NumeralLemmas.{number_read-Ok, number_read-Err, number_read-NotANumber}
 use Rattle.sq_value.proofs.integer.read_int.Goals as goal

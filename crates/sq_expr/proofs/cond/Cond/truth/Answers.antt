@@ -1,8 +1,7 @@
-use Rattle.std.proofs.Common.{◌≡◌, sym, ◌∙◌, ap}
+use Rattle.std.proofs.Common.{sym, ◌∙◌, ap}
 use Rattle.sq_value.specs.Comparison.{compared}
 use Rattle.sq_value.specs.declared.value.Value.{Value}
 use Rattle.sq_expr.specs.Meaning.{side_value, value_in}
-use Rattle.sq_expr.specs.declared.cond.Side.{Side}
 use Rattle.sq_expr.proofs.MeaningLemmas.{truth_of-Compare}
 use Rattle.sq_expr.proofs.cond.Cond.truth.Goals as goal
 

@@ -1,4 +1,4 @@
-use Rattle.std.proofs.Common.{◌≡◌, ℕ, length, arith, refl}
+use Rattle.std.proofs.Common.{arith, refl}
 use Rattle.sq_value.specs.Relation.{rows_of}
 use Rattle.sq_value.proofs.table.Table.new.Goals as goal
 

@@ -1,7 +1,5 @@
-use Rattle.std.proofs.Common.{◌≡◌, ℕ, ◌+◌, ◌<◌, List, [], ◌∷◌, ◌++◌, length, refl, arith}
-use Rattle.sq_value.specs.Relation.{Relation, IsRow, rows_of}
-use Rattle.sq_value.specs.declared.value.Value.{Value}
-use Rattle.sq_value.specs.declared.table.Column.{Column}
+use Rattle.std.proofs.Common.{◌<◌, length, refl, arith}
+use Rattle.sq_value.specs.Relation.{IsRow}
 use Rattle.sq_value.proofs.FlatLemmas.{length-rows_of, IsPushed, IsPushed-append}
 use Rattle.sq_value.proofs.table.Table.push_row.Goals as goal
 

@@ -1,4 +1,4 @@
-use Rattle.std.proofs.Common.{◌≡◌, ℕ, ◌+◌, ◌*◌, ◌<◌, length, arith, get_or}
+use Rattle.std.proofs.Common.{◌≡◌, ◌<◌, length, arith}
 use Rattle.sq_value.proofs.FlatLemmas.{length-rows_of, place-lt, IsValueAt, IsValueAt-flat}
 use Rattle.sq_value.proofs.table.Table.value.Goals as goal
 
