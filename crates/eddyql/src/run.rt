@@ -111,3 +111,6 @@ pub fn run<F: Folder, O: Sink, N: Sink>(
         Err(refusal) => refusal,
     }
 }
+
+#[cfg(test)]
+mod tests;
