@@ -114,3 +114,6 @@ pub fn run<F: Folder, O: Sink, N: Sink>(
         Err(refusal) => refusal,
     }
 }
+
+#[cfg(test)]
+mod tests;
