@@ -1,13 +1,11 @@
 -- The table of a file from the records that a new reader has left.
-use Rattle.std.proofs.Common.{◌≡◌, ℕ, ◌<◌, ◌≤◌, Bool, true, false, List, [], ◌∷◌, length, Some, None, cond, refl, ap, ◌∙◌, inl, inr}
-use Rattle.std.specs.Prelude.{IsSome}
+use Rattle.std.proofs.Common.{◌≡◌, ℕ, ◌<◌, ◌≤◌, Bool, true, false, List, [], ◌∷◌, length, Some, None, cond, refl, ap, ◌∙◌}
 use Rattle.std.specs.Borrow.{Bor}
 use Rattle.std.proofs.lemmas.Bool.{and_parts, eqb-true, le-ltb, lt-ltb, or_right}
-use Rattle.csv.specs.Reading.{ChangesHeaders, default_config, is_bom, is_flexible, names_headers, reader_config, reader_headers, reader_state, reader_trim, records, source_of, strip_bom}
-use Rattle.csv.specs.declared.reader.Trim.TheVariants as trim
+use Rattle.csv.specs.Reading.{ChangesHeaders, default_config, is_bom, reader_state, records, source_of, strip_bom}
 use Rattle.csv.specs.declared.parser.State.TheVariants as st
 use Rattle.csv.specs.declared.reader.Reader.{Reader}
-use Rattle.eddyql.specs.Reading.{IsPlain, records_left, records_on, slice_left}
+use Rattle.eddyql.specs.Reading.{records_left, records_on, slice_left}
 use Rattle.eddyql.specs.TableText.{begins_with_mark, early_table, table_of_records}
 
 -- bytes that don't begin with the mark stay as they are

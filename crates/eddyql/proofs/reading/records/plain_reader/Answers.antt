@@ -1,6 +1,4 @@
-use Rattle.std.proofs.Common.{sym, ap, ◌∙◌}
-use Rattle.csv.specs.Reading.{strip_bom}
-use Rattle.eddyql.proofs.EarlyLemmas.{IsPlain-new, records_left-new}
+use Rattle.eddyql.proofs.EarlyLemmas.{records_left-new}
 use Rattle.eddyql.proofs.reading.records.plain_reader.Goals as goal
 
 pub returns-in-Ok-clause-records : goal.returns-in-Ok-clause-records
