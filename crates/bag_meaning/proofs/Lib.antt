@@ -4,3 +4,5 @@ pub mod ProductLemmas
 pub mod CreditLemmas
 pub mod ProductRange
 pub mod RisingLemmas
+pub mod AnswerLemmas
+mod WorkedRows

@@ -17,3 +17,4 @@ pub mod LogLemmas
 pub mod TurnLemmas
 pub mod StepLemmas
 pub mod OrderLemmas
+pub mod RunLemmas

@@ -55,7 +55,14 @@ fn bind_query(alloc: Global, query: &JoinQuery<'_>, tables: &Tables) -> Result<B
 {
     let left = query.left as u32;
     let right = query.right as u32;
-    match bind(alloc, left, right, query.left_column, query.right_column, tables) {
+    match bind(
+        alloc,
+        left,
+        right,
+        query.left_column,
+        query.right_column,
+        tables,
+    ) {
         Ok(Some(block)) => Ok(block),
         Ok(None) => Err(Status::Bind {
             statement: 1,
@@ -71,7 +78,12 @@ fn bind_query(alloc: Global, query: &JoinQuery<'_>, tables: &Tables) -> Result<B
 /// The first refusal, in this order: the script isn't there or can't be read, or isn't a script;
 /// each table isn't there or can't be read, or isn't a table; a table lacks its column. Want of
 /// memory may come at any point.
-pub fn prepare<F: Folder>(alloc: Global, folder: &mut F, script: &str, tables: &[String]) -> Result<Plan, Status>
+pub fn prepare<F: Folder>(
+    alloc: Global,
+    folder: &mut F,
+    script: &str,
+    tables: &[String],
+) -> Result<Plan, Status>
     requires { length tables.now ≤ 16 }
     ensures keeps { F.holds folder.new ≡ F.holds folder.old }
     ensures counts { NeverFalls (F.faults folder.old) (F.faults folder.new) }

@@ -10,6 +10,8 @@ mod name;
 mod predicate;
 mod table;
 mod tables;
+#[cfg(test)]
+mod tests;
 mod text;
 mod value;
 

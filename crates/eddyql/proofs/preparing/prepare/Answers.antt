@@ -16,7 +16,6 @@ use Rattle.eddyql.proofs.PlanLemmas.{query_read-refused, query_found, query_refu
 use Rattle.eddyql.proofs.preparing.prepare.Given as given
 use Rattle.eddyql.proofs.preparing.prepare.Goals as goal
 
-
 pub returns-in_err-text-clause-refused : goal.returns-in_err-text-clause-refused
 returns-in_err-text-clause-refused g c =
     let p = err_from_is_err_and c.from_residual.result c.from_residual.ensures.1 in
@@ -29,19 +28,19 @@ returns-in_err-query-clause-refused g c =
     let command : Command = record { script = c.args.script.now; tables = map table_of_word (map string_bytes c.args.tables.now) } in
     rw (p.1, p.2)
     (λ files told. query_refused command files (g.F.Folder.holds c.args.folder.now) c.in_ok-text.text.items c.as_slice.result.now _ c.in_err-query.field-0.0
-        told c.in_ok-text.ensures.gives c.as_slice.ensures.value c.in_err-query.ensures.refused)
+    told c.in_ok-text.ensures.gives c.as_slice.ensures.value c.in_err-query.ensures.refused)
 
 pub returns-in_err-relations-clause-refused : goal.returns-in_err-relations-clause-refused
 returns-in_err-relations-clause-refused g c =
     let p = err_from_is_err_and c.from_residual-in_err-relations.result c.from_residual-in_err-relations.ensures.1 in
     let command : Command = record { script = c.args.script.now; tables = map table_of_word (map string_bytes c.args.tables.now) } in
     let rises = λ (r : Rose (g.F.Folder.faults c.load.new.folder) (g.F.Folder.faults c.load_tables.new.folder)).
-        Rose-earlier (g.F.Folder.faults c.args.folder.now) (g.F.Folder.faults c.load.new.folder) (g.F.Folder.faults c.load_tables.new.folder) c.in_ok-text.ensures.counts r in
+    Rose-earlier (g.F.Folder.faults c.args.folder.now) (g.F.Folder.faults c.load.new.folder) (g.F.Folder.faults c.load_tables.new.folder) c.in_ok-text.ensures.counts r in
     rw (p.1, p.2)
     (λ files told. plan_refused-tables command files (join_seen c.in_ok-query.query) _ c.in_err-relations.field-0.0
-        (query_found command files (g.F.Folder.holds c.args.folder.now) c.in_ok-text.text.items c.as_slice.result.now (join_seen c.in_ok-query.query)
-            told c.in_ok-text.ensures.gives c.as_slice.ensures.value c.in_ok-query.ensures.ok)
-        (MayRefuse-same _ _ _ _ c.in_err-relations.field-0.0 refl rises (c.in_err-relations.ensures.refused files (c.in_ok-text.ensures.keeps ∙ told))))
+    (query_found command files (g.F.Folder.holds c.args.folder.now) c.in_ok-text.text.items c.as_slice.result.now (join_seen c.in_ok-query.query)
+    told c.in_ok-text.ensures.gives c.as_slice.ensures.value c.in_ok-query.ensures.ok)
+    (MayRefuse-same _ _ _ _ c.in_err-relations.field-0.0 refl rises (c.in_err-relations.ensures.refused files (c.in_ok-text.ensures.keeps ∙ told))))
 
 pub returns-in_err-block-clause-refused : goal.returns-in_err-block-clause-refused
 returns-in_err-block-clause-refused g c =
@@ -49,16 +48,16 @@ returns-in_err-block-clause-refused g c =
     let command : Command = record { script = c.args.script.now; tables = map table_of_word (map string_bytes c.args.tables.now) } in
     rw (p.1, p.2)
     (λ files told. plan_refused-block command files (join_seen c.in_ok-query.query) c.in_ok-relations.relations _ c.in_err-block.field-0.0
-        (query_found command files (g.F.Folder.holds c.args.folder.now) c.in_ok-text.text.items c.as_slice.result.now (join_seen c.in_ok-query.query)
-            told c.in_ok-text.ensures.gives c.as_slice.ensures.value c.in_ok-query.ensures.ok)
-        (c.in_ok-relations.ensures.told files (c.in_ok-text.ensures.keeps ∙ told)) c.in_err-block.ensures.refused)
+    (query_found command files (g.F.Folder.holds c.args.folder.now) c.in_ok-text.text.items c.as_slice.result.now (join_seen c.in_ok-query.query)
+    told c.in_ok-text.ensures.gives c.as_slice.ensures.value c.in_ok-query.ensures.ok)
+    (c.in_ok-relations.ensures.told files (c.in_ok-text.ensures.keeps ∙ told)) c.in_err-block.ensures.refused)
 
 pub returns-clause-told : goal.returns-clause-told
 returns-clause-told g c = λ files told.
     let command : Command = record { script = c.args.script.now; tables = map table_of_word (map string_bytes c.args.tables.now) } in
     plan_found command files (join_seen c.in_ok-query.query) c.in_ok-relations.relations c.in_ok-block.block
     (query_found command files (g.F.Folder.holds c.args.folder.now) c.in_ok-text.text.items c.as_slice.result.now (join_seen c.in_ok-query.query)
-        told c.in_ok-text.ensures.gives c.as_slice.ensures.value c.in_ok-query.ensures.ok)
+    told c.in_ok-text.ensures.gives c.as_slice.ensures.value c.in_ok-query.ensures.ok)
     (c.in_ok-relations.ensures.told files (c.in_ok-text.ensures.keeps ∙ told)) c.in_ok-block.ensures.ok
 
 pub returns-clause-runnable : goal.returns-clause-runnable

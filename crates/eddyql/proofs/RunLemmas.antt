@@ -1,0 +1,165 @@
+-- How a run ends: the outcome of its words, by the plan.
+use Rattle.std.proofs.Common.{◌≡◌, ℕ, ◌<◌, ◌≤◌, Bool, true, false, List, [], ◌∷◌, length, take, get_or, map, Option, Some, None, Result, Ok, Err, refl, sym, ◌∙◌, ap, subst, ◌⊎◌, inl, inr, arith}
+use Rattle.std.specs.Prelude.{All, is_some}
+use Rattle.std.proofs.lemmas.List.{length-map, get_or-map}
+use Rattle.std.proofs.lemmas.Bool.{false≢true}
+use Rattle.outside.specs.Files.{File}
+use Rattle.sq_value.specs.Relation.{Relation}
+use Rattle.sq_expr.specs.declared.block.Block.{Block}
+use Rattle.bag_meaning.specs.Bag.{bag, uses_of}
+use Rattle.bag_meaning.specs.declared.combo.Combo.{Combo}
+use Rattle.bag_meaning.proofs.ProductRange.{IsCombination, bag-in_range}
+use Rattle.eddyql.specs.Words.{Command, command, table_of_word}
+use Rattle.eddyql.specs.Join.{IsJoin, no_meaning}
+use Rattle.eddyql.specs.Writing.{HasRows, rows_of_combo}
+use Rattle.eddyql.specs.Outcome.{◌>>=◌, or_refuse, plan_of, outcome, text_of}
+use Rattle.eddyql.specs.Refusal.{MayRefuse, IsEarly}
+use Rattle.eddyql.specs.Run.{MayEnd, status_of, text_due, IsLate}
+use Rattle.eddyql.specs.declared.plan.Plan.{Plan}
+use Rattle.eddyql.specs.declared.status.Status.{Status}
+use Rattle.eddyql.specs.declared.status.Status.TheVariants as status
+use Rattle.eddyql.proofs.WordsLemmas.{IsCommand, IsCommand-from_command}
+
+-- a join has two aliases
+two_aliases : (block : Block) (tables : List Relation) → IsJoin block tables → length block.aliases ≡ 2
+two_aliases block tables j = sym (length-map block.aliases (λ u. u.table)) ∙ ap (length {A = ℕ}) j.uses
+
+-- the combinations that were found are the bag's, row by row
+pub rows_found : (block : Block) (tables : List Relation) (combos : List Combo) → IsJoin block tables
+    → map (λ (c : Combo). take 2 c.rows) combos ≡ bag no_meaning block tables → map (rows_of_combo block) combos ≡ bag no_meaning block tables
+rows_found block tables combos j e =
+    ap (λ (n : ℕ). map (λ (c : Combo). take n c.rows) combos) (two_aliases block tables j) ∙ e
+
+-- what holds of each image holds of each item
+All-from_map : {X Y : Type 0} (P : Y → Type 0) (f : X → Y) (xs : List X) → All P (map f xs) → All (λ x. P (f x)) xs
+All-from_map P f xs all k d h =
+    subst P (get_or-map f xs k d (f d) h) (all k (f d) (omega (arith, length-map xs f)))
+
+-- each alias of a combination that was found has a row of its table
+pub rows_fit : (block : Block) (tables : List Relation) (combos : List Combo) → IsJoin block tables
+    → map (λ (c : Combo). take 2 c.rows) combos ≡ bag no_meaning block tables
+    → All (λ combo. HasRows block tables (rows_of_combo block combo)) combos
+rows_fit block tables combos j e =
+    All-from_map (HasRows block tables) (rows_of_combo block) combos
+    (subst (All (HasRows block tables)) (sym (rows_found block tables combos j e)) (λ k d h. (bag-in_range no_meaning block tables k d h).below))
+
+-- the command of words that are in form
+pub record IsRunOf (words : List (List ℕ)) (script : List ℕ) (tables : List (List ℕ)) : Type 0 where
+  pub is : command words ≡ Some record { script = script; tables = map table_of_word tables }
+  pub few : length tables ≤ 16
+
+pub IsRunOf-words : (words : List (List ℕ)) (script : List ℕ) (tables : List (List ℕ)) → is_some (command words) ≡ true → words ≡ script ∷ tables
+    → IsRunOf words script tables
+IsRunOf-words words script tables e f = by (command words) refl e
+  where
+    by : (o : Option Command) → command words ≡ o → is_some o ≡ true → IsRunOf words script tables
+    by None g h = absurd cc
+    by (Some c) g h =
+        let parts = IsCommand-from_command words c g in
+        let same : c.script ∷ parts.rest ≡ script ∷ tables = sym parts.words ∙ f in
+        let first : c.script ≡ script = cc in
+        let behind : parts.rest ≡ tables = cc in
+        record {
+          is = g ∙ ap (λ (s : List ℕ). Some record { script = s; tables = c.tables }) first
+              ∙ ap (λ ts. Some record { script = script; tables = ts }) (parts.tables ∙ ap (map table_of_word) behind);
+          few = subst (λ (ts : List (List ℕ)). length ts ≤ 16) behind parts.few;
+        }
+
+-- the outcome of a command is that of its plan
+pub outcome-plan : (words : List (List ℕ)) (c : Command) (files : List File) → command words ≡ Some c
+    → outcome words files ≡ (plan_of c files >>= (λ plan. Ok (text_of plan)))
+unfolding outcome
+outcome-plan words c files e = rw e refl
+
+pub outcome-done : (words : List (List ℕ)) (c : Command) (files : List File) (plan : Plan) → command words ≡ Some c → plan_of c files ≡ Ok plan
+    → outcome words files ≡ Ok (text_of plan)
+outcome-done words c files plan e f =
+    outcome-plan words c files e ∙ ap (λ (r : Result Plan Status). r >>= (λ p. Ok (text_of p))) f
+
+-- words that aren't in form
+pub outcome-usage : (words : List (List ℕ)) (files : List File) → command words ≡ None → outcome words files ≡ Err status.Usage
+unfolding outcome
+outcome-usage words files e = rw e refl
+
+-- a refusal before the output ends a run so
+pub MayEnd-early : (words : List (List ℕ)) (c : Command) (files : List File) (rose rises : Type 0) (s : Status) → command words ≡ Some c → IsEarly s
+    → MayRefuse rose (plan_of c files) s → MayEnd rose rises (outcome words files) s
+MayEnd-early words c files rose rises s e early h = by s early h
+  where
+    end : (t : Status) → plan_of c files ≡ Err t → outcome words files ≡ Err t
+    end t f = outcome-plan words c files e ∙ ap (λ (r : Result Plan Status). r >>= (λ p. Ok (text_of p))) f
+
+    by : (t : Status) → IsEarly t → MayRefuse rose (plan_of c files) t → MayEnd rose rises (outcome words files) t
+    by status.Memory i k = tt
+    by (status.Read f) i k = k
+    by status.Done i k = absurd i
+    by status.Write i k = absurd i
+    by status.Usage i k = absurd i
+    by (status.Script f) i k = end (status.Script f) k
+    by (status.Bind n f) i k = end (status.Bind n f) k
+    by (status.BadTable n f) i k = end (status.BadTable n f) k
+    by (status.NotFound f) i k = end (status.NotFound f) k
+
+-- without a fault, a run ends by the outcome's status or for want of memory
+pub ends_by_outcome : (rose rises : Type 0) (due : Result (List ℕ) Status) (s : Status) → MayEnd rose rises due s → ¬ rose → ¬ rises
+    → (s ≡ status_of due) ⊎ (s ≡ status.Memory)
+ends_by_outcome rose rises (Ok text) status.Done h a b = inl refl
+ends_by_outcome rose rises (Err r) status.Done h a b = absurd (false≢true h)
+ends_by_outcome rose rises due status.Write h a b = absurd (b h.0)
+ends_by_outcome rose rises due (status.Read f) h a b = absurd (a h)
+ends_by_outcome rose rises due status.Memory h a b = inr refl
+ends_by_outcome rose rises due status.Usage h a b = inl (sym (ap status_of h))
+ends_by_outcome rose rises due (status.Script f) h a b = inl (sym (ap status_of h))
+ends_by_outcome rose rises due (status.Bind n f) h a b = inl (sym (ap status_of h))
+ends_by_outcome rose rises due (status.BadTable n f) h a b = inl (sym (ap status_of h))
+ends_by_outcome rose rises due (status.NotFound f) h a b = inl (sym (ap status_of h))
+
+-- a run whose text is due ends by a step that writes
+pub MayEnd-late : (rose rises : Type 0) (due : Result (List ℕ) Status) (text : List ℕ) (s : Status) → due ≡ Ok text → IsLate s
+    → (s ≡ status.Write → rises) → MayEnd rose rises due s
+MayEnd-late rose rises due text s e late writes = subst (λ (r : Result (List ℕ) Status). MayEnd rose rises r s) (sym e) (by s late writes)
+  where
+    by : (t : Status) → IsLate t → (t ≡ status.Write → rises) → MayEnd rose rises (Ok text) t
+    by status.Done i f = refl
+    by status.Write i f = (f refl, refl)
+    by status.Memory i f = tt
+    by status.Usage i f = absurd i
+    by (status.Script x) i f = absurd i
+    by (status.Bind n x) i f = absurd i
+    by (status.BadTable n x) i f = absurd i
+    by (status.NotFound x) i f = absurd i
+    by (status.Read x) i f = absurd i
+
+-- no command, from the test or from no words
+pub no_command-false : (words : List (List ℕ)) (b : Bool) → b ≡ is_some (command words) → b ≡ false → command words ≡ None
+no_command-false words b e f = by (command words) (sym e ∙ f)
+  where
+    by : (o : Option Command) → is_some o ≡ false → o ≡ None
+    by None g = refl
+    by (Some c) g = absurd cc
+
+pub no_command-none : {X : Type 0} (bytes : X → List ℕ) (xs : List X) → length xs ≡ 0 → command (map bytes xs) ≡ None
+unfolding command
+no_command-none bytes [] e = refl
+no_command-none bytes (x ∷ xs) e = absurd (omega arith)
+
+-- the parts of words that were split
+pub run_of : {X : Type 0} (bytes : X → List ℕ) (xs : List X) (x : X) (rest : List X) (b : Bool) → b ≡ is_some (command (map bytes xs)) → b ≡ true
+    → xs ≡ x ∷ rest → IsRunOf (map bytes xs) (bytes x) (map bytes rest)
+run_of bytes xs x rest b e f split = IsRunOf-words (map bytes xs) (bytes x) (map bytes rest) (sym e ∙ f) (ap (map bytes) split)
+
+-- the outcome of a run whose plan was prepared
+pub outcome_of_run : (words : List (List ℕ)) (script name : List ℕ) (tables : List (List ℕ)) (files : List File) (plan : Plan)
+    → IsRunOf words script tables → name ≡ script → plan_of record { script = name; tables = map table_of_word tables } files ≡ Ok plan
+    → outcome words files ≡ Ok (text_of plan)
+outcome_of_run words script name tables files plan r same e =
+    outcome-done words _ files plan r.is
+    (ap (λ (s : List ℕ). plan_of record { script = s; tables = map table_of_word tables } files) (sym same) ∙ e)
+
+-- the end of a run whose plan was refused
+pub end_of_refused : (words : List (List ℕ)) (script name : List ℕ) (tables : List (List ℕ)) (files : List File) (rose rises : Type 0) (s : Status)
+    → IsRunOf words script tables → name ≡ script → IsEarly s
+    → MayRefuse rose (plan_of record { script = name; tables = map table_of_word tables } files) s → MayEnd rose rises (outcome words files) s
+end_of_refused words script name tables files rose rises s r same early h =
+    MayEnd-early words _ files rose rises s r.is early
+    (subst (λ (n : List ℕ). MayRefuse rose (plan_of record { script = n; tables = map table_of_word tables } files) s) same h)

@@ -1,0 +1,113 @@
+//! The top call: from words, files and an output to a status.
+
+ghost use Rattle.std.specs.Prelude.{◌≡◌, ◌⊎◌, ℕ, List, Some, None, Ok, IsOkAnd, map, take};
+ghost use Rattle.std.specs.String.{string_bytes};
+ghost use Rattle.outside.specs.Files.{File};
+ghost use Rattle.outside.specs.Faults.{NeverFalls, Rose};
+ghost use Rattle.outside.specs.Told.{Adds, AddsFront};
+ghost use Rattle.bag_meaning.specs.Bag.{bag};
+ghost use Rattle.eddyql.specs.Words.{command};
+ghost use Rattle.eddyql.specs.Join.{no_meaning};
+ghost use Rattle.eddyql.specs.Writing.{HasRows, rows_of_combo};
+ghost use Rattle.eddyql.specs.Outcome.{outcome, text_of};
+ghost use Rattle.eddyql.specs.Run.{MayEnd, status_of, text_due, IsLate};
+ghost use Rattle.eddyql.specs.Runnable.{IsRunnable};
+ghost use Rattle.eddyql.specs.declared.status.FileOf.{FileOf};
+
+use crate::join::join;
+use crate::plan::Plan;
+use crate::preparing::prepare;
+use crate::status::Status;
+use crate::words::is_command;
+use crate::writing::{WriteFault, write_answer};
+use bag_meaning::Combo;
+use outside::{Folder, Sink};
+use std::alloc::Global;
+
+// Writes the answer of a plan, whose combinations were found.
+fn put_answer<O: Sink>(alloc: Global, plan: &Plan, combos: &[Combo], out: &mut O) -> Status
+    requires runnable { IsRunnable plan.now.block plan.now.tables }
+    requires found { map (λ (c : Combo). take 2 c.rows) combos.now ≡ bag no_meaning plan.now.block plan.now.tables }
+    ensures counts { NeverFalls (O.faults out.old) (O.faults out.new) }
+    ensures done { result ≡ Status.Done → Adds (O.written out.old) (O.written out.new) (text_of plan.now) }
+    ensures front { AddsFront (O.written out.old) (O.written out.new) (text_of plan.now) }
+    ensures write { result ≡ Status.Write → Rose (O.faults out.old) (O.faults out.new) }
+    ensures late { IsLate result }
+{
+    match write_answer(alloc, &plan.block, &plan.tables, combos, out) {
+        Ok(()) => Status::Done,
+        Err(WriteFault::Failed) => Status::Write,
+        Err(WriteFault::Memory) => Status::Memory,
+    }
+}
+
+// Runs a plan and writes its answer.
+fn answer<O: Sink>(alloc: Global, plan: &Plan, out: &mut O) -> Status
+    requires { IsRunnable plan.now.block plan.now.tables }
+    ensures counts { NeverFalls (O.faults out.old) (O.faults out.new) }
+    ensures done { result ≡ Status.Done → Adds (O.written out.old) (O.written out.new) (text_of plan.now) }
+    ensures front { AddsFront (O.written out.old) (O.written out.new) (text_of plan.now) }
+    ensures write { result ≡ Status.Write → Rose (O.faults out.old) (O.faults out.new) }
+    ensures late { IsLate result }
+{
+    match join(alloc, &plan.block, &plan.tables) {
+        Ok(combos) => put_answer(alloc, plan, &combos, out),
+        Err(_) => Status::Memory,
+    }
+}
+
+/// Runs a script: the top call, which does all that the program does.
+///
+/// The words are the script's file and 1 to 16 tables, each `NAME=FILE`; they don't hold the
+/// program's own name. In this order the words are tested, the script is loaded and read, each
+/// table is loaded and read, the columns are bound, the query is run, and its answer is written to
+/// `out`: nothing is written before. The first refusal ends the run. Nothing is put to `notes` yet.
+///
+/// Where the folder tells what it holds, `Done` has written exactly the text of the outcome of these
+/// words and files, and any refusal but a fault of the folder or the output, or want of memory, is
+/// that outcome's. Want of memory may come at any point, and leaves a front of the text.
+pub fn run<F: Folder, O: Sink, N: Sink>(
+    alloc: Global,
+    words: &[String],
+    folder: &mut F,
+    out: &mut O,
+    notes: &mut N,
+) -> Status
+    ensures keeps { F.holds folder.new ≡ F.holds folder.old }
+    ensures folder_counts { NeverFalls (F.faults folder.old) (F.faults folder.new) }
+    ensures out_counts { NeverFalls (O.faults out.old) (O.faults out.new) }
+    ensures notes { N.written notes.new ≡ N.written notes.old }
+
+    // The headline: what is written where the run is done.
+    ensures done { result ≡ Status.Done → (files : List File) → F.holds folder.old ≡ Some files
+        → IsOkAnd (outcome (map string_bytes words.now) files) (λ text. Adds (O.written out.old) (O.written out.new) text) }
+
+    // Each status has its cause.
+    ensures causes { (files : List File) → F.holds folder.old ≡ Some files
+        → MayEnd (Rose (F.faults folder.old) (F.faults folder.new)) (Rose (O.faults out.old) (O.faults out.new)) (outcome (map string_bytes words.now) files) result }
+    ensures usage_only { result ≡ Status.Usage → command (map string_bytes words.now) ≡ None }
+    ensures usage { command (map string_bytes words.now) ≡ None → result ≡ Status.Usage }
+    ensures read { (file : FileOf) → result ≡ Status.Read file → Rose (F.faults folder.old) (F.faults folder.new) }
+    ensures write { result ≡ Status.Write → Rose (O.faults out.old) (O.faults out.new) }
+
+    // Without a fault the status is the outcome's, or want of memory.
+    ensures complete { (files : List File) → F.holds folder.old ≡ Some files
+        → ¬ (Rose (F.faults folder.old) (F.faults folder.new)) → ¬ (Rose (O.faults out.old) (O.faults out.new))
+        → (result ≡ status_of (outcome (map string_bytes words.now) files)) ⊎ (result ≡ Status.Memory) }
+
+    // Nothing but a front of the text that is due is written.
+    ensures front { (files : List File) → F.holds folder.old ≡ Some files
+        → AddsFront (O.written out.old) (O.written out.new) (text_due (outcome (map string_bytes words.now) files)) }
+{
+    let _ = notes;
+    if !is_command(words) {
+        return Status::Usage;
+    }
+    let Some((script, tables)) = words.split_first() else {
+        return Status::Usage;
+    };
+    match prepare(alloc, folder, script.as_str(), tables) {
+        Ok(plan) => answer(alloc, &plan, out),
+        Err(refusal) => refusal,
+    }
+}
