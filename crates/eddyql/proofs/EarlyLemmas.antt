@@ -1,8 +1,8 @@
 -- The table of a file from the records that a new reader has left.
-use Rattle.std.proofs.Common.{◌≡◌, ℕ, ◌<◌, ◌≤◌, Bool, true, false, List, [], ◌∷◌, length, Some, None, cond, refl, ap}
+use Rattle.std.proofs.Common.{◌≡◌, ℕ, ◌<◌, ◌≤◌, Bool, true, false, List, [], ◌∷◌, length, Some, None, cond, refl, ap, ◌∙◌}
 use Rattle.std.specs.Borrow.{Bor}
 use Rattle.std.proofs.lemmas.Bool.{and_parts, eqb-true, le-ltb, lt-ltb, or_right}
-use Rattle.csv.specs.Reading.{default_config, is_bom, reader_state, records, source_of, strip_bom}
+use Rattle.csv.specs.Reading.{ChangesHeaders, default_config, is_bom, reader_state, records, source_of, strip_bom}
 use Rattle.csv.specs.declared.parser.State.TheVariants as st
 use Rattle.csv.specs.declared.reader.Reader.{Reader}
 use Rattle.eddyql.specs.Reading.{records_left, records_on, slice_left}
@@ -25,12 +25,17 @@ strip_bom-keeps (a ∷ b ∷ d ∷ rest) e = by (is_bom a b d) refl
         absurd (cc (mark, e))
     by false is = rw is refl
 
--- a new reader has the records of the whole text left
-pub records_left-new : (reader : Reader (Bor (List ℕ))) (bytes : List ℕ) → begins_with_mark bytes ≡ false → reader_state reader ≡ st.StartRecord
-    → source_of slice_left reader ≡ Some (strip_bom bytes) → records_left reader ≡ records default_config bytes
+-- a reader with another header row has the same bytes left
+source-headers : (a b : Reader (Bor (List ℕ))) → ChangesHeaders a b → source_of slice_left b ≡ source_of slice_left a
+source-headers a b e = ap (source_of slice_left) e
+
+-- a new reader whose header row was set has the records of the whole text left
+pub records_left-new : (a b : Reader (Bor (List ℕ))) (bytes : List ℕ) → ChangesHeaders a b → reader_state a ≡ st.StartRecord
+    → source_of slice_left a ≡ Some (strip_bom bytes) → begins_with_mark bytes ≡ false → records_left b ≡ records default_config bytes
 unfolding records_left
-records_left-new reader bytes e start source =
-    rw (start, source) (ap (λ (xs : List ℕ). records_on st.StartRecord (Some xs)) (strip_bom-keeps bytes e))
+records_left-new a b bytes e start source unmarked =
+    let start_still : reader_state b ≡ st.StartRecord = ap (λ (r : Reader (Bor (List ℕ))). reader_state r) e ∙ start in
+    rw (start_still, source-headers a b e, source) (ap (λ (xs : List ℕ). records_on st.StartRecord (Some xs)) (strip_bom-keeps bytes unmarked))
 
 -- the table of bytes of a length that is taken, which don't begin with the mark
 pub early_table-read : (bytes : List ℕ) → begins_with_mark bytes ≡ false → length bytes ≤ 67108864

@@ -12,7 +12,6 @@ mod records;
 #[cfg(test)]
 mod tests;
 
-use csv::ReaderBuilder;
 use sq_value::{Memory, Table};
 use std::alloc::{AllocError, AllocFailed, Global};
 
@@ -73,9 +72,6 @@ pub fn read_table(alloc: Global, bytes: &[u8]) -> Result<Table, ReadFault>
     if begins_with_mark(bytes) || bytes.len() > MOST_BYTES {
         return Err(ReadFault::NotATable);
     }
-    let mut reader = ReaderBuilder::new()
-        .has_headers(false)
-        .flexible(true)
-        .from_reader(alloc, bytes);
+    let mut reader = records::plain_reader(alloc, bytes)?;
     records::read_records(alloc, &mut reader)
 }

@@ -1,20 +1,36 @@
 //! The records of a table's file, one after another.
 
-ghost use Rattle.std.specs.Prelude.{◌≡◌, ◌<◌, [], Some, None, true, length, IfOk, IfErr, OnOk};
-ghost use Rattle.csv.specs.Reading.{error_kind, stops_reader};
+ghost use Rattle.std.specs.Prelude.{◌≡◌, ◌<◌, [], Some, None, true, false, length, IfOk, IfErr, OnOk};
+ghost use Rattle.csv.specs.Reading.{default_config, error_kind, records, stops_reader};
 ghost use Rattle.csv.specs.Records.{fields_of};
-ghost use Rattle.eddyql.specs.TableText.{table_of_records};
+ghost use Rattle.eddyql.specs.TableText.{begins_with_mark, table_of_records};
 ghost use Rattle.eddyql.specs.Reading.{AllIntegers, GivesNext, IsPlain, filled, records_left};
 
 use super::ReadFault;
 use super::heading::read_heading;
 use super::integers::push_integers;
-use csv::{ByteRecord, Error, Reader};
+use csv::{ByteRecord, Error, Reader, ReaderBuilder};
 use sq_value::Table;
 use std::alloc::Global;
 
 // The most rows that a table may have below its heading.
 const MOST_ROWS: u32 = 1_000_000;
+
+/// A reader of the bytes to which the first record is one like the others, and of any length. An
+/// empty heading is set, since csv would else keep copies of the first record, however long.
+pub fn plain_reader(alloc: Global, bytes: &[u8]) -> Result<Reader<&[u8]>, ReadFault>
+    ensures plain { IfOk result (λ r. IsPlain r) }
+    ensures records { begins_with_mark bytes.now ≡ false → IfOk result (λ r. records_left r ≡ records default_config bytes.now) }
+    ensures memory { IfErr result (λ e. e ≡ ReadFault.Memory) }
+{
+    let mut reader = ReaderBuilder::new()
+        .flexible(true)
+        .from_reader(alloc, bytes);
+    match reader.set_byte_headers(ByteRecord::new(alloc)) {
+        Ok(()) => Ok(reader),
+        Err(_) => Err(ReadFault::Memory),
+    }
+}
 
 // What a failed read means: want of memory. A slice's own reads don't fail, though no contract of
 // theirs rules it out.

@@ -4,7 +4,7 @@ use Rattle.sq_value.specs.Relation.{Relation}
 use Rattle.eddyql.specs.Reading.{records_left}
 use Rattle.eddyql.specs.TableText.{early_table, table_of_records}
 use Rattle.eddyql.specs.declared.reading.ReadFault.TheVariants as fault
-use Rattle.eddyql.proofs.EarlyLemmas.{records_left-new, early_table-read, early_table-mark, early_table-long}
+use Rattle.eddyql.proofs.EarlyLemmas.{early_table-read, early_table-mark, early_table-long}
 use Rattle.eddyql.proofs.reading.read_table.Goals as goal
 use Rattle.eddyql.proofs.reading.read_table.Goals.{then-begins_with_mark-via-then-begins_with_mark, then-begins_with_mark-via-else-begins_with_mark+then-bytes-gt-MOST_BYTES}
 
@@ -15,11 +15,10 @@ returns-then-begins_with_mark-clause-form c = λ e.
       | then-begins_with_mark-via-else-begins_with_mark+then-bytes-gt-MOST_BYTES w ↦ early_table-long c.args.bytes.now w.if-bytes-gt-MOST_BYTES.true
     ]
 
-table_is : (c : goal.Joined-reader) → table_of_records (records_left c.from_reader-reader.result) ≡ early_table c.args.bytes.now
+table_is : (c : goal.Joined-reader) → table_of_records (records_left c.in_ok-reader.reader) ≡ early_table c.args.bytes.now
 table_is c =
     let unmarked = sym c.begins_with_mark.ensures ∙ c.if-begins_with_mark.false in
-    let left = records_left-new c.from_reader-reader.result c.args.bytes.now unmarked c.from_reader-reader.ensures.state c.from_reader-reader.ensures.source in
-    ap table_of_records left ∙ sym (early_table-read c.args.bytes.now unmarked c.if-bytes-gt-MOST_BYTES.false)
+    ap table_of_records (c.in_ok-reader.ensures.records unmarked) ∙ sym (early_table-read c.args.bytes.now unmarked c.if-bytes-gt-MOST_BYTES.false)
 
 pub returns-clause-ok : goal.returns-clause-ok
 returns-clause-ok c = subst (λ (o : Option Relation). IfOk c.read_records.result (λ t. o ≡ Some t)) (table_is c) c.read_records.ensures.ok
