@@ -1,0 +1,4 @@
+pub mod Form
+pub mod Piece
+pub mod Quoted
+pub mod Token
