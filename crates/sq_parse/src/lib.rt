@@ -1,12 +1,20 @@
 //! The tokens, the grammar and the parser of scripts.
 #![tactic(auto)]
 
+mod cursor;
 mod form;
+mod mark;
 mod piece;
 mod quoted;
+mod stop;
 mod token;
+mod tree;
 
+pub use cursor::Cursor;
+pub use mark::{Mark, mark_of, same};
+pub use stop::Stop;
 pub use token::{Span, Token, TokenKind, tokens};
+pub use tree::{ColRef, Item, Items, Name, Operand, OrderItem, RawTerm, Script, Source, Statement, Tree};
 
 #[cfg(test)]
 mod tests;
