@@ -8,3 +8,4 @@ pub mod OperandsExact
 pub mod ItemsExact
 pub mod PredicatesExact
 pub mod ConditionsExact
+pub mod StatementsExact

@@ -19,7 +19,7 @@ use Rattle.sq_parse.specs.declared.tree.Operand.TheVariants as o
 use Rattle.sq_parse.specs.declared.tree.Tree.{Tree}
 use Rattle.sq_parse.specs.declared.tree.Tree.TheVariants as t
 use Rattle.sq_parse.specs.Mark.{is, is_name, is_sign, is_comparison, is_truth, is_way, is_end}
-use Rattle.sq_parse.specs.Tok.{Tok, head, next, behind}
+use Rattle.sq_parse.specs.Tok.{Tok, head, next, behind, done}
 use Rattle.sq_parse.specs.Tree.{name_of, column_of, number_term, column_term, signed, sum_of, begin_of, comparison_by, truth_by, tested, all_of, any_of, source_of, joined_on, way_of, statement_of}
 use Rattle.sq_parse.specs.Reading.{Parser, Outcome, and_then, pure, ◌>>=◌, ◌<$>◌, ◌<+>◌, token, mark, number, choose, optional, many, after, separated, closed, enclosed, refuse}
 use Rattle.sq_parse.specs.Grammar.{Limits}
@@ -96,6 +96,9 @@ conjunction neg = (λ p. all_of p.0 p.1) <$> separated k.And neg
 
 unfoldable pub disjunction : Parser Tree → Parser Tree
 disjunction neg = (λ p. any_of p.0 p.1) <$> separated k.Or (conjunction neg)
+
+abbrev pub begins_join : Mark → Bool
+begins_join m = is k.Comma m || is k.Cross m || is k.Inner m || is k.Join m
 
 module _ (limits : Limits) where
   -- a number, held to the narrow bound where a `*` comes behind it
@@ -182,9 +185,6 @@ module _ (limits : Limits) where
   unfoldable pub join : ℕ → Parser Source
   join d = choose (is k.Comma) (after k.Comma source) (choose (is k.Cross) (after k.Cross (after k.Join source)) (joined d))
 
-  abbrev pub begins_join : Mark → Bool
-  begins_join m = is k.Comma m || is k.Cross m || is k.Inner m || is k.Join m
-
   unfoldable pub where_condition : ℕ → Parser (Option Tree)
   where_condition d = optional (is k.Where) (after k.Where (condition d))
 
@@ -193,11 +193,15 @@ module _ (limits : Limits) where
       <$> after k.Select (optional (is k.All) (mark k.All) <+> (select_list <+> (after k.From source <+> (many begins_join (join d)
       <+> (where_condition d <+> order)))))
 
+  -- behind a semicolon, the end or one more statement
+  abbrev pub after_semicolon : Parser (List Statement) → Parser (List Statement)
+  after_semicolon more = choose (is k.Semicolon) (mark k.Semicolon >>= (λ _. λ ts. if done ts then pure [] ts else more ts)) (pure [])
+
   -- the statements behind the first, at most this many
   unfoldable pub statements : ℕ → ℕ → Parser (List Statement)
-  statements d zero = choose (is k.Semicolon) (mark k.Semicolon >>= (λ _. choose (is k.End) (pure []) (choose (is k.Select) (refuse stop.TooManyStatements) (refuse stop.Syntax)))) (pure [])
-  statements d (suc n) = choose (is k.Semicolon) (mark k.Semicolon >>= (λ _. choose (is k.End) (pure []) (statement d >>= (λ s. (λ more. s ∷ more) <$> statements d n)))) (pure [])
+  statements d zero = after_semicolon (choose (is k.Select) (refuse stop.TooManyStatements) (refuse stop.Syntax))
+  statements d (suc n) = after_semicolon (statement d >>= (λ s. (λ more. s ∷ more) <$> statements d n))
 
-  -- a whole list of tokens, as a script of at most this many statements
+  -- a whole list of tokens, as a script of a statement and at most this many more
   unfoldable pub script : ℕ → ℕ → Parser Script
-  script d n = statement d >>= (λ s. statements d n >>= (λ more. choose (is k.End) (pure (record { statements = s ∷ more })) (refuse stop.Syntax)))
+  script d n = statement d >>= (λ s. statements d n >>= (λ more. λ ts. if done ts then Ok (record { statements = s ∷ more }, ts) else Err (stop.Syntax, ts)))

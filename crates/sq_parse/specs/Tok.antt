@@ -1,5 +1,5 @@
 -- The tokens of a script as the grammar sees them.
-use Rattle.std.specs.Prelude.{ℕ, ◌+◌, ◌-◌, ◌*◌, List, [], ◌∷◌, map, fold}
+use Rattle.std.specs.Prelude.{ℕ, ◌+◌, ◌-◌, ◌*◌, List, [], ◌∷◌, Bool, true, false, map, fold}
 use Rattle.sq_parse.specs.declared.form.Form.{Form}
 use Rattle.sq_parse.specs.declared.form.Form.TheVariants as form
 use Rattle.sq_parse.specs.declared.mark.Mark.{Mark}
@@ -50,3 +50,8 @@ next ts = (head ts).mark
 abbrev pub behind : List Tok → List Tok
 behind [] = []
 behind (t ∷ ts) = ts
+
+-- no token is left
+abbrev pub done : List Tok → Bool
+done [] = true
+done (t ∷ ts) = false
