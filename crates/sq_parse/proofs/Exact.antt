@@ -378,3 +378,23 @@ pub listed : {A : Type 0} {l : List Tok → A → Type 0} {p : Parser A} {s f : 
     → Exact (rule.separated wanted l) (read.separated wanted p) s f'
 listed {l = l} {p = p} {s = s} {f = f} wanted f' real x own wide fails joins self =
     followed x (repeated (rule.after wanted l) (read.after wanted p) (is wanted) f (is wanted) f' (after wanted real x) self fails own wide (Full-after wanted l)) joins
+
+-- ---- the same reader, said otherwise
+
+pub alike : {A : Type 0} {l : List Tok → A → Type 0} {p q : Parser A} {s f : Mark → Bool} → ((ts : List Tok) → p ts ≡ q ts) → Exact l q s f → Exact l p s f
+alike same_outcome x = record {
+  takes = λ ts a rest e. x.takes ts a rest (sym (same_outcome ts) ∙ e);
+  again = λ us a w h e. same_outcome (us ++ w) ∙ x.again us a w h e;
+  begins = x.begins;
+}
+
+nest_second : {A B C D : Type 0} (o : Outcome B) (c : C) (a : A) (h : C → A → B → D)
+    → and_then o (λ b. read.pure (h c a b)) ≡ and_then {A = C × (A × B)} (and_then {A = A × B} {B = C × (A × B)} (and_then {B = A × B} o (λ b. read.pure (a, b))) (λ q. read.pure (c, q))) (λ p. read.pure (h p.0 p.1.0 p.1.1))
+nest_second (Ok x) c a h = refl
+nest_second (Err e) c a h = refl
+
+-- two parts read one after the other, behind a third
+pub nest : {A B C D : Type 0} (o : Outcome A) (m : Parser B) (c : C) (h : C → A → B → D)
+    → and_then o (λ a. (λ b. h c a b) <$> m) ≡ and_then {A = C × (A × B)} (and_then {A = A × B} {B = C × (A × B)} (and_then {B = A × B} o (λ a. ◌>>=◌ {B = A × B} m (λ b. read.pure (a, b)))) (λ q. read.pure (c, q))) (λ p. read.pure (h p.0 p.1.0 p.1.1))
+nest (Ok x) m c h = nest_second (m x.1) c x.0 h
+nest (Err e) m c h = refl

@@ -9,3 +9,5 @@ pub mod ItemsExact
 pub mod PredicatesExact
 pub mod ConditionsExact
 pub mod StatementsExact
+pub mod Loops
+pub mod Shrinking

@@ -3,19 +3,20 @@ use Rattle.std.proofs.Common.{◌≡◌, Bool, true, false, not, ◌&&◌, ◌||
 use Rattle.sq_parse.specs.declared.mark.Mark.{Mark}
 use Rattle.sq_parse.specs.declared.mark.Mark.TheVariants as k
 use Rattle.sq_parse.specs.declared.tree.RawTerm.{RawTerm}
+use Rattle.sq_parse.specs.declared.tree.Operand.{Operand}
 use Rattle.sq_parse.specs.declared.tree.Operand.TheVariants as o
 use Rattle.sq_parse.specs.Mark.{is, same, is_name, is_sign}
-use Rattle.sq_parse.specs.Tok.{Tok, next, behind}
+use Rattle.sq_parse.specs.Tok.{Tok, head, next, behind}
 use Rattle.sq_parse.specs.Tree.{name_of, column_of, number_term, column_term, signed, sum_of}
 use Rattle.sq_parse.specs.Rules as rule
 use Rattle.sq_parse.specs.Rules.{Then, ◌⊗◌, ◌⊕◌, ◌⊛◌}
 use Rattle.sq_parse.specs.Reading as reading
-use Rattle.sq_parse.specs.Reading.{◌<$>◌, ◌<+>◌}
+use Rattle.sq_parse.specs.Reading.{Parser, ◌<$>◌, ◌<+>◌}
 use Rattle.sq_parse.specs.Grammar as g
 use Rattle.sq_parse.specs.Grammar.{Limits}
 use Rattle.sq_parse.specs.Reader as read
 use Rattle.sq_parse.proofs.Marks.{within, within_at, apart, apart_at, all_within}
-use Rattle.sq_parse.proofs.Exact.{Exact, token, number, weaker, gives, followed, by_test, either, maybe, repeated, after, swapped, Full-left, Full-token, if_ok}
+use Rattle.sq_parse.proofs.Exact.{Exact, token, number, weaker, gives, followed, by_test, either, maybe, repeated, after, swapped, alike, nest, Full, Full-gives, Full-left, Full-token, if_ok}
 
 -- ---- what may follow
 
@@ -86,19 +87,33 @@ module _ (limits : Limits) where
   unfolding read.term same
   term = weaker begins_term ends_term (either (is k.Number) number_led column_led refl refl) refl refl
 
-  pub signed_term : Exact (rule.token is_sign ⊗ g.term limits) (read.signed_term limits) is_sign ends_term
+  pub signed_term : Exact (g.signed_term limits) (read.signed_term limits) is_sign ends_term
   unfolding read.signed_term same
-  signed_term = followed (token is_sign refl) term refl
+  signed_term = gives (λ p. signed p.0 p.1) (followed (token is_sign refl) term refl)
 
-  pub sum : Exact (g.sum limits) (read.sum limits) (λ m. is_sign m || begins_term m) ends_operand
-  unfolding read.sum same
-  sum = gives (λ p. sum_of p.0 p.1.0 p.1.1) (weaker (λ m. is_sign m || begins_term m) ends_operand
+  pub Full-signed : Full (g.signed_term limits)
+  Full-signed = Full-gives (λ p. signed p.0 p.1) (Full-left (rule.token is_sign) (g.term limits) (Full-token is_sign))
+
+  abbrev plain_sum : Parser Operand
+  plain_sum = (λ p. sum_of p.0 p.1.0 p.1.1) <$> (reading.optional is_sign (reading.token is_sign) <+> (read.term limits <+> reading.many is_sign (read.signed_term limits)))
+
+  sum_alike : (ts : List Tok) (b : Bool) → is_sign (next ts) ≡ b → read.sum limits ts ≡ plain_sum ts
+  unfolding read.sum read.sum_from
+  sum_alike ts true e = rw e (nest (read.term limits (behind ts)) (reading.many is_sign (read.signed_term limits)) (Some (head ts)) sum_of)
+  sum_alike ts false e = rw e (nest (read.term limits ts) (reading.many is_sign (read.signed_term limits)) None sum_of)
+
+  sum_plainly : Exact (g.sum limits) plain_sum (λ m. is_sign m || begins_term m) ends_operand
+  unfolding same
+  sum_plainly = gives (λ p. sum_of p.0 p.1.0 p.1.1) (weaker (λ m. is_sign m || begins_term m) ends_operand
       (followed (maybe is_sign begins_term (token is_sign refl) refl refl (all_within begins_term))
           (followed term
-              (repeated (rule.token is_sign ⊗ g.term limits) (read.signed_term limits) is_sign ends_term is_sign ends_operand signed_term refl refl refl refl (Full-left (rule.token is_sign) (g.term limits) (Full-token is_sign)))
+              (repeated (g.signed_term limits) (read.signed_term limits) is_sign ends_term is_sign ends_operand signed_term refl refl refl refl Full-signed)
               refl)
           refl)
       refl refl)
+
+  pub sum : Exact (g.sum limits) (read.sum limits) (λ m. is_sign m || begins_term m) ends_operand
+  sum = alike (λ ts. sum_alike ts (is_sign (next ts)) refl) sum_plainly
 
   pub operand : Exact (g.operand limits) (read.operand limits) begins_operand ends_operand
   unfolding read.operand same

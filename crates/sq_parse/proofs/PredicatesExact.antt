@@ -19,7 +19,7 @@ use Rattle.sq_parse.specs.Grammar.{Limits}
 use Rattle.sq_parse.specs.Reader as read
 use Rattle.sq_parse.proofs.Marks.{within, within_at, apart, apart_at, all_within, and_left, and_right}
 use Rattle.sq_parse.proofs.Exact.{Exact, Chain, token, number, weaker, gives, followed, chained, along, by_test, either, maybe, repeated, after, closed, listed, Full-left, Full-token}
-use Rattle.sq_parse.proofs.OperandsExact.{anything, ends_column, ends_number, ends_term, ends_operand, begins_term, begins_operand, name, column, literal, signed_term, term, sum, operand, simple}
+use Rattle.sq_parse.proofs.OperandsExact.{anything, ends_column, ends_number, ends_term, ends_operand, begins_term, begins_operand, name, column, literal, signed_term, Full-signed, term, sum, operand, simple}
 
 -- ---- no call begins with an operand
 
@@ -90,9 +90,9 @@ module _ (limits : Limits) where
       (NoCall-gives _ (λ p. column_term p.0 p.1) behind_term (NoCall-then g.column (rule.optional (rule.after k.Star (rule.number limits.narrow))) _ behind_column behind_column behind_term
           NoCall-column (maybe (is k.Star) behind_term (after k.Star refl (number limits.narrow)) refl refl refl) refl))
 
-  terms : Exact (rule.many (rule.token is_sign ⊗ g.term limits)) (reading.many is_sign (read.signed_term limits)) behind_term begins_tail
+  terms : Exact (rule.many (g.signed_term limits)) (reading.many is_sign (read.signed_term limits)) behind_term begins_tail
   unfolding same
-  terms = repeated (rule.token is_sign ⊗ g.term limits) (read.signed_term limits) is_sign ends_term is_sign begins_tail (signed_term limits) refl refl refl refl (Full-left (rule.token is_sign) (g.term limits) (Full-token is_sign))
+  terms = repeated (g.signed_term limits) (read.signed_term limits) is_sign ends_term is_sign begins_tail (signed_term limits) refl refl refl refl (Full-signed limits)
 
   NoCall-operand : NoCall (g.operand limits) begins_tail
   unfolding same
@@ -101,10 +101,10 @@ module _ (limits : Limits) where
           (NoCall-gives (rule.mark k.Null) (λ n. o.Null n.at) begins_tail (NoCall-token (is k.Null) begins_tail refl))
           (NoCall-gives (rule.mark k.Text) (λ x. o.Text x.at x.text) begins_tail (NoCall-token (is k.Text) begins_tail refl)))
       (NoCall-gives _ (λ p. sum_of p.0 p.1.0 p.1.1) begins_tail
-          (NoCall-maybe (rule.token is_sign) (g.term limits ⊗ rule.many (rule.token is_sign ⊗ g.term limits)) _ begins_term begins_term begins_tail
+          (NoCall-maybe (rule.token is_sign) (g.term limits ⊗ rule.many (g.signed_term limits)) _ begins_term begins_term begins_tail
               (NoCall-token is_sign begins_term refl)
               (followed (term limits) terms refl) refl
-              (NoCall-then (g.term limits) (rule.many (rule.token is_sign ⊗ g.term limits)) _ behind_term behind_term begins_tail NoCall-term terms refl)))
+              (NoCall-then (g.term limits) (rule.many (g.signed_term limits)) _ behind_term behind_term begins_tail NoCall-term terms refl)))
 
   -- ---- predicates with a subject, told by what stands behind it
 

@@ -27,6 +27,10 @@ pub record Limits : Type 0 where
   pub narrow : ℕ → Bool
   pub wide : ℕ → Bool
 
+-- the limits of scripts: 2,147,483,647 beside a `*`, and 9,223,372,036,854,775,807
+abbrev pub shipped : Limits
+shipped = record { narrow = λ n. nat_le n 2147483647; wide = λ n. nat_le n 9223372036854775807 }
+
 abbrev pub name : Rule Name
 name = name_of ⊛ token is_name
 
@@ -79,9 +83,12 @@ module _ (limits : Limits) where
   abbrev pub term : Rule RawTerm
   term = number_led ⊕ column_led
 
+  abbrev pub signed_term : Rule RawTerm
+  signed_term = (λ p. signed p.0 p.1) ⊛ (token is_sign ⊗ term)
+
   -- [ sign ] term { sign term }
   abbrev pub sum : Rule Operand
-  sum = (λ p. sum_of p.0 p.1.0 p.1.1) ⊛ (optional (token is_sign) ⊗ (term ⊗ many (token is_sign ⊗ term)))
+  sum = (λ p. sum_of p.0 p.1.0 p.1.1) ⊛ (optional (token is_sign) ⊗ (term ⊗ many signed_term))
 
   abbrev pub operand : Rule Operand
   operand = literal ⊕ sum

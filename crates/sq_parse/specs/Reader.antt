@@ -1,5 +1,5 @@
 -- What the parser's functions read, rule by rule.
-use Rattle.std.specs.Prelude.{ℕ, zero, suc, Bool, ◌&&◌, ◌||◌, if◌then◌else◌, List, [], ◌∷◌, Option, Some, None, is_some, Ok, Err}
+use Rattle.std.specs.Prelude.{ℕ, ℤ, pos, nat_le, zero, suc, Bool, ◌&&◌, ◌||◌, if◌then◌else◌, List, [], ◌∷◌, Option, Some, None, is_some, Ok, Err}
 use Rattle.sq_parse.specs.declared.mark.Mark.{Mark}
 use Rattle.sq_parse.specs.declared.mark.Mark.TheVariants as k
 use Rattle.sq_parse.specs.declared.stop.Stop.TheVariants as stop
@@ -29,6 +29,10 @@ name = name_of <$> token is_name
 
 unfoldable pub column : Parser ColRef
 column = (λ p. column_of p.0 p.1) <$> (name <+> optional (is k.Dot) (after k.Dot name))
+
+-- the value of a number of at most this bound
+unfoldable pub value_within : ℕ → Parser ℤ
+value_within bound = (λ n. pos n.number) <$> number (λ n. nat_le n bound)
 
 -- a `*` comes behind the next token
 abbrev pub is_starred : List Tok → Bool
@@ -116,11 +120,15 @@ module _ (limits : Limits) where
   unfoldable pub term : Parser RawTerm
   term = choose (is k.Number) number_led column_led
 
-  unfoldable pub signed_term : Parser (Tok × RawTerm)
-  signed_term = token is_sign <+> term
+  unfoldable pub signed_term : Parser RawTerm
+  signed_term = (λ p. signed p.0 p.1) <$> (token is_sign <+> term)
+
+  -- a sum whose first term was read
+  unfoldable pub sum_from : ℕ → RawTerm → Parser Operand
+  sum_from at first = (λ more. o.Sum at (first ∷ more)) <$> many is_sign signed_term
 
   unfoldable pub sum : Parser Operand
-  sum = (λ p. sum_of p.0 p.1.0 p.1.1) <$> (optional is_sign (token is_sign) <+> (term <+> many is_sign signed_term))
+  sum = choose is_sign (token is_sign >>= (λ s. term >>= (λ first. sum_from s.at (signed s first)))) (term >>= (λ first. sum_from first.at first))
 
   unfoldable pub operand : Parser Operand
   operand = choose is_literal literal sum

@@ -1,6 +1,6 @@
 -- What reading functions are made of. One answers what it read and the tokens that are left, or why
 -- it stopped and the tokens from there on.
-use Rattle.std.specs.Prelude.{◌≡◌, ◌≢◌, Bool, if◌then◌else◌, ℕ, zero, suc, List, [], ◌∷◌, length, Option, Some, None, Result, Ok, Err}
+use Rattle.std.specs.Prelude.{◌≡◌, ◌≢◌, Bool, true, false, if◌then◌else◌, ℕ, zero, suc, List, [], ◌∷◌, ◌++◌, length, drop, Option, Some, None, Result, Ok, Err}
 use Rattle.sq_parse.specs.declared.mark.Mark.{Mark}
 use Rattle.sq_parse.specs.declared.mark.Mark.TheVariants as k
 use Rattle.sq_parse.specs.declared.stop.Stop.{Stop}
@@ -81,3 +81,13 @@ enclosed p = after k.Open (closed p)
 abbrev pub Reads : {A : Type 0} → Outcome A → Result A Stop → List Tok → Type 0
 Reads outcome (Ok a) new = outcome ≡ Ok (a, new)
 Reads outcome (Err s) new = s ≢ stop.Memory → outcome ≡ Err (s, new)
+
+-- A function that goes past one token, which is to be this.
+abbrev pub Expects : Mark → List Tok → Result (Unit {0}) Stop → List Tok → Type 0
+Expects wanted old (Ok done) new = (is wanted (next old) ≡ true) × (new ≡ behind old)
+Expects wanted old (Err s) new = (is wanted (next old) ≡ false) × (s ≡ stop.Syntax) × (new ≡ old)
+
+-- What a function that reads more items behind some ensures: those items stay in front.
+abbrev pub ReadsMore : {A : Type 0} → List A → Outcome (List A) → Result (List A) Stop → List Tok → Type 0
+ReadsMore found outcome (Ok all) new = (all ≡ found ++ drop (length found) all) × (outcome ≡ Ok (drop (length found) all, new))
+ReadsMore found outcome (Err s) new = s ≢ stop.Memory → outcome ≡ Err (s, new)

@@ -49,9 +49,9 @@ abbrev pub signed : Tok → RawTerm → RawTerm
 signed sign term = record term { negative = is k.Minus sign.mark }
 
 -- a sum, which begins at its first sign where it has one
-abbrev pub sum_of : Option Tok → RawTerm → List (Tok × RawTerm) → Operand
-sum_of None first more = o.Sum first.at (first ∷ map (λ p. signed p.0 p.1) more)
-sum_of (Some sign) first more = o.Sum sign.at (signed sign first ∷ map (λ p. signed p.0 p.1) more)
+abbrev pub sum_of : Option Tok → RawTerm → List RawTerm → Operand
+sum_of None first more = o.Sum first.at (first ∷ more)
+sum_of (Some sign) first more = o.Sum sign.at (signed sign first ∷ more)
 
 -- the place of an operand's first token
 abbrev pub begin_of : Operand → ℕ

@@ -1,13 +1,15 @@
 //! A cursor over the tokens of a script, which draws each as it is reached.
 
-ghost use Rattle.std.specs.Prelude.{◌≡◌, ◌+◌, ◌<◌, ◌≤◌, length, take, IfOk, IfSome, MatchOption, min, ⊤};
+ghost use Rattle.std.specs.Prelude.{◌≡◌, ◌+◌, ◌<◌, ◌≤◌, length, take, IfOk, IfSome, MatchOption, min, ⊤, if◌then◌else◌};
 ghost use Rattle.sq_parse.specs.Tok as spec;
 ghost use Rattle.sq_parse.specs.Cursor as cursor;
 ghost use Rattle.sq_parse.specs.Mark.{same};
+ghost use Rattle.sq_parse.specs.Reading.{Expects};
 
 use crate::form::Form;
 use crate::mark::{self, Mark, mark_of};
 use crate::piece::{Drawn, draw};
+use crate::stop::Stop;
 use crate::token::{name_content, text_content};
 use sq_value::{Memory, SqText};
 use std::alloc::Global;
@@ -151,6 +153,43 @@ impl<'a> Cursor<'a> {
         if let Some(drawn) = self.ahead {
             self.ahead = draw(drawn.rest, drawn.at + drawn.length as u32);
             self.mark = mark_ahead(self.ahead);
+        }
+    }
+
+    /// Goes past the next token where it is this, and tells whether it was.
+    pub fn eat(&mut self, mark: Mark) -> bool
+        ensures found { result ≡ same (spec.next self.old) mark }
+        ensures after { self.new ≡ (if result then spec.behind self.old else self.old) }
+    {
+        let found = self.sees(mark);
+        if found {
+            self.advance();
+        }
+        found
+    }
+
+    /// Goes past the next token, which is to be this.
+    ///
+    /// # Errors
+    /// `Syntax`: it isn't.
+    pub fn expect(&mut self, mark: Mark) -> Result<(), Stop>
+        ensures { Expects mark self.old result self.new }
+    {
+        if self.sees(mark) {
+            self.advance();
+            Ok(())
+        } else {
+            Err(Stop::Syntax)
+        }
+    }
+
+    /// Whether no token is left.
+    pub fn is_done(&self) -> bool
+        ensures { result ≡ spec.done self.now }
+    {
+        match self.ahead {
+            None => true,
+            Some(_) => false,
         }
     }
 }

@@ -4,6 +4,8 @@
 mod cursor;
 mod form;
 mod mark;
+mod names;
+mod operand;
 mod piece;
 mod quoted;
 mod stop;

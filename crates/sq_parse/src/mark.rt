@@ -180,3 +180,32 @@ pub fn same(x: Mark, y: Mark) -> bool
 {
     x == y
 }
+
+/// Whether a token is a sign.
+pub fn is_sign(mark: Mark) -> bool
+    ensures { result ≡ spec.is_sign mark }
+{
+    same(mark, Mark::Plus) || same(mark, Mark::Minus)
+}
+
+/// Whether a token is a comparison.
+pub fn is_comparison(mark: Mark) -> bool
+    ensures { result ≡ spec.is_comparison mark }
+{
+    same(mark, Mark::Equal)
+        || same(mark, Mark::NotEqual)
+        || same(mark, Mark::Less)
+        || same(mark, Mark::LessOrEqual)
+        || same(mark, Mark::Greater)
+        || same(mark, Mark::GreaterOrEqual)
+}
+
+/// Whether a token is a name.
+pub fn is_name(mark: Mark) -> bool
+    ensures { result ≡ spec.is_name mark }
+{
+    same(mark, Mark::Name)
+        || same(mark, Mark::First)
+        || same(mark, Mark::Last)
+        || same(mark, Mark::Nulls)
+}
