@@ -379,6 +379,12 @@ pub listed : {A : Type 0} {l : List Tok → A → Type 0} {p : Parser A} {s f : 
 listed {l = l} {p = p} {s = s} {f = f} wanted f' real x own wide fails joins self =
     followed x (repeated (rule.after wanted l) (read.after wanted p) (is wanted) f (is wanted) f' (after wanted real x) self fails own wide (Full-after wanted l)) joins
 
+pub list_exact : {A : Type 0} {l : List Tok → A → Type 0} {p : Parser A} {s f : Mark → Bool} (wanted : Mark) (f' : Mark → Bool) → is wanted k.End ≡ false
+    → Exact l p s f → within (is wanted) f ≡ true → within f' f ≡ true → apart f' (is wanted) ≡ true → within (λ m. is wanted m || f' m) f ≡ true
+    → within (is wanted) (is wanted) ≡ true
+    → Exact (rule.list_of wanted l) (read.list_of wanted p) s f'
+list_exact wanted f' real x own wide fails joins self = gives (λ p. p.0 ∷ p.1) (listed wanted f' real x own wide fails joins self)
+
 -- ---- the same reader, said otherwise
 
 pub alike : {A : Type 0} {l : List Tok → A → Type 0} {p q : Parser A} {s f : Mark → Bool} → ((ts : List Tok) → p ts ≡ q ts) → Exact l q s f → Exact l p s f

@@ -16,7 +16,7 @@ use Rattle.sq_parse.specs.Reading.{◌>>=◌, ◌<$>◌, ◌<+>◌}
 use Rattle.sq_parse.specs.Grammar as g
 use Rattle.sq_parse.specs.Reader as read
 use Rattle.sq_parse.proofs.Marks.{within, within_at, apart, apart_at, all_within}
-use Rattle.sq_parse.proofs.Exact.{Exact, Chain, token, weaker, gives, followed, chained, along, either, maybe, repeated, after, listed}
+use Rattle.sq_parse.proofs.Exact.{Exact, Chain, token, weaker, gives, followed, chained, along, either, maybe, repeated, after, list_exact}
 use Rattle.sq_parse.proofs.OperandsExact.{anything, ends_column, name, column}
 
 abbrev pub ends_source : Mark → Bool
@@ -128,7 +128,7 @@ pub select_list : Exact g.select_list read.select_list (λ m. is k.Star m || is_
 unfolding read.select_list read.items same
 select_list = weaker (λ m. is k.Star m || is_name m) ends_list (either (is k.Star)
     (gives (λ _. selected.Star) (token (is k.Star) refl))
-    (gives (λ p. selected.List (p.0 ∷ p.1)) (listed k.Comma ends_list refl item refl refl refl refl refl))
+    (gives selected.List (list_exact k.Comma ends_list refl item refl refl refl refl refl))
     refl refl) refl refl
 
 -- ---- sort keys
@@ -142,11 +142,11 @@ ends_keys m = not (is k.Dot m || is_way m || is k.Nulls m || is k.Comma m)
 abbrev begins_ends : Mark → Bool
 begins_ends m = is k.Nulls m || ends_key m
 
-key : Exact g.key read.key is_name ends_key
+pub key : Exact g.key read.key is_name ends_key
 unfolding read.key same
 key = gives (λ p. record { column = p.0; way = way_of p.1.0 p.1.1 })
     (followed column (followed (maybe is_way begins_ends (token is_way refl) refl refl (all_within begins_ends)) (maybe (is k.Nulls) ends_key (after k.Nulls refl (token is_end refl)) refl refl (all_within ends_key)) refl) refl)
 
-pub keys : Exact (rule.separated k.Comma g.key) read.keys is_name ends_keys
+pub keys : Exact (rule.list_of k.Comma g.key) read.keys is_name ends_keys
 unfolding read.keys same
-keys = listed k.Comma ends_keys refl key refl refl refl refl refl
+keys = list_exact k.Comma ends_keys refl key refl refl refl refl refl

@@ -6,8 +6,9 @@ use Rattle.sq_parse.specs.declared.mark.Mark.TheVariants as k
 use Rattle.sq_parse.specs.declared.stop.Stop.{Stop}
 use Rattle.sq_parse.specs.declared.stop.Stop.TheVariants as stop
 use Rattle.std.specs.Result.{IsErrAnd}
-use Rattle.sq_parse.specs.Tok.{Tok, next}
-use Rattle.sq_parse.specs.Reading.{Parser, Outcome, and_then, pure, choose, many_within, many, ReadsMore, ◌>>=◌, ◌<$>◌}
+use Rattle.sq_parse.specs.Mark.{is}
+use Rattle.sq_parse.specs.Tok.{Tok, head, next, behind}
+use Rattle.sq_parse.specs.Reading.{Parser, Outcome, and_then, pure, choose, many_within, many, after, list_of, Reads, ReadsMore, ◌>>=◌, ◌<$>◌}
 use Rattle.sq_parse.proofs.Exact.{Exact, Full}
 
 -- what is read takes a token at least
@@ -98,3 +99,24 @@ module _ {A : Type 0} (test : Mark → Bool) (p : Parser A) (real : test k.End �
   so_far_error found₀ ts₀ found ts s rest (Ok x) h r begins fails = absurd h
   so_far_error found₀ ts₀ found ts s rest (Err e) h r begins fails =
       λ other. so_far_fails found₀ ts₀ found ts e rest r begins (rw h (fails (λ is. other (h ∙ is))))
+
+-- ---- lists with a token between
+
+pub after_is : {A : Type 0} (wanted : Mark) (p : Parser A) (ts : List Tok) → is wanted (next ts) ≡ true → after wanted p ts ≡ p (behind ts)
+after_is {A = A} wanted p ts e = rw e (again (p (behind ts)))
+  where
+    again : (o : Outcome A) → and_then {A = Tok × A} (and_then {B = Tok × A} o (λ b. pure (head ts, b))) (λ q. pure q.1) ≡ o
+    again (Ok c) = refl
+    again (Err s) = refl
+
+pub list_done : {A : Type 0} (wanted : Mark) (p : Parser A) (ts : List Tok) (a : A) (found₀ : List A) (ts₀ : List Tok) (found : List A) (rest : List Tok)
+    → p ts ≡ Ok (a, ts₀) → found₀ ≡ a ∷ [] → ReadsMore found₀ (many (is wanted) (after wanted p) ts₀) (Ok found) rest → list_of wanted p ts ≡ Ok (found, rest)
+list_done wanted p ts a found₀ ts₀ found rest one first more =
+    let drops : drop (length found₀) found ≡ drop 1 found = ap (λ xs. drop (length xs) found) first in
+    let all : found ≡ a ∷ drop 1 found = more.0 ∙ (ap (λ xs. xs ++ drop (length found₀) found) first ∙ ap (λ ys. a ∷ ys) drops) in
+    rw (one, more.1) (ap (λ ys. Ok (ys, rest)) (ap (λ ys. a ∷ ys) drops ∙ sym all))
+
+pub list_fails : {A : Type 0} (wanted : Mark) (p : Parser A) (ts : List Tok) (a : A) (found₀ : List A) (ts₀ : List Tok) (r : Result (List A) Stop) (s : Stop) (rest : List Tok)
+    → p ts ≡ Ok (a, ts₀) → IsErrAnd r (λ e. e ≡ s) → ReadsMore found₀ (many (is wanted) (after wanted p) ts₀) r rest → Reads (list_of wanted p ts) r rest
+list_fails wanted p ts a found₀ ts₀ (Ok x) s rest one h more = absurd h
+list_fails wanted p ts a found₀ ts₀ (Err e) s rest one h more = λ other. rw (one, more other) refl

@@ -18,7 +18,7 @@ use Rattle.sq_parse.specs.Grammar as g
 use Rattle.sq_parse.specs.Grammar.{Limits}
 use Rattle.sq_parse.specs.Reader as read
 use Rattle.sq_parse.proofs.Marks.{within, within_at, apart, apart_at, all_within, and_left, and_right}
-use Rattle.sq_parse.proofs.Exact.{Exact, Chain, token, number, weaker, gives, followed, chained, along, by_test, either, maybe, repeated, after, closed, listed, Full-left, Full-token}
+use Rattle.sq_parse.proofs.Exact.{Exact, Chain, token, number, weaker, gives, followed, chained, along, by_test, either, maybe, repeated, after, closed, list_exact, Full-left, Full-token}
 use Rattle.sq_parse.proofs.OperandsExact.{anything, ends_column, ends_number, ends_term, ends_operand, begins_term, begins_operand, name, column, literal, signed_term, Full-signed, term, sum, operand, simple}
 
 -- ---- no call begins with an operand
@@ -118,7 +118,7 @@ module _ (limits : Limits) where
   between_rest x n = (λ p. t.Between (begin_of x) (is_some n) x p.0 p.1) ⊛ (rule.after k.Between (g.operand limits) ⊗ rule.after k.And (g.operand limits))
 
   abbrev within_rest : Operand → Option Tok → List Tok → Tree → Type 0
-  within_rest x n = (λ p. t.Within (begin_of x) (is_some n) x (p.0 ∷ p.1)) ⊛ rule.after k.In (rule.enclosed (rule.separated k.Comma (g.operand limits)))
+  within_rest x n = (λ p. t.Within (begin_of x) (is_some n) x p) ⊛ rule.after k.In (rule.enclosed (rule.list_of k.Comma (g.operand limits)))
 
   abbrev ranged_rest : Operand → List Tok → Tree → Type 0
   ranged_rest x = Chain (rule.optional (rule.mark k.Not)) (λ n. between_rest x n ⊕ within_rest x n)
@@ -172,20 +172,20 @@ module _ (limits : Limits) where
   unfolding read.is_null same
   is_null x = gives (λ p. t.IsNull (begin_of x) (is_some p.0) x) (after k.Is refl (followed (negated (is k.Null) refl) (token (is k.Null) refl) refl))
 
-  between : (x : Operand) (n : Option Tok) → Exact (between_rest x n) (read.between limits x n) (is k.Between) ends_operand
+  between : (x : Operand) (n : Option Tok) → Exact (between_rest x n) (read.between limits x (is_some n)) (is k.Between) ends_operand
   unfolding read.between same
   between x n = gives (λ p. t.Between (begin_of x) (is_some n) x p.0 p.1) (followed (after k.Between refl (operand limits)) (after k.And refl (operand limits)) refl)
 
   abbrev ends_operands : Mark → Bool
   ends_operands m = is k.Close m
 
-  operands : Exact (rule.separated k.Comma (g.operand limits)) (read.operands limits) begins_operand ends_operands
+  operands : Exact (rule.list_of k.Comma (g.operand limits)) (read.operands limits) begins_operand ends_operands
   unfolding read.operands same
-  operands = listed k.Comma ends_operands refl (operand limits) refl refl refl refl refl
+  operands = list_exact k.Comma ends_operands refl (operand limits) refl refl refl refl refl
 
-  listed_in : (x : Operand) (n : Option Tok) → Exact (within_rest x n) (read.within limits x n) (is k.In) anything
+  listed_in : (x : Operand) (n : Option Tok) → Exact (within_rest x n) (read.within limits x (is_some n)) (is k.In) anything
   unfolding read.within same
-  listed_in x n = gives (λ p. t.Within (begin_of x) (is_some n) x (p.0 ∷ p.1)) (after k.In refl (closed operands refl))
+  listed_in x n = gives (λ all. t.Within (begin_of x) (is_some n) x all) (after k.In refl (closed operands refl))
 
   abbrev begins_range : Mark → Bool
   begins_range m = is k.Between m || is k.In m
@@ -201,7 +201,7 @@ module _ (limits : Limits) where
   module _ (nested : (n : ℕ) → limits.narrow n ≡ true → limits.wide n ≡ true) where
     call : Exact (g.call limits) (read.call limits) is_name anything
     unfolding read.call read.simples same
-    call = gives (λ p. t.Call p.0 (p.1.0 ∷ p.1.1)) (followed name (closed (listed k.Comma ends_operands refl (simple limits nested) refl refl refl refl refl) refl) refl)
+    call = gives (λ p. t.Call p.0 p.1) (followed name (closed (list_exact k.Comma ends_operands refl (simple limits nested) refl refl refl refl refl) refl) refl)
 
     called : (us : List Tok) (a : Tree) (w : List Tok) → g.call limits us a → read.begins_call (us ++ w) ≡ true
     called us a w h =

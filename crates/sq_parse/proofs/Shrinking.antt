@@ -5,6 +5,9 @@ use Rattle.sq_parse.specs.Mark.{is, same, is_sign}
 use Rattle.sq_parse.specs.Grammar as g
 use Rattle.sq_parse.specs.Grammar.{shipped}
 use Rattle.sq_parse.specs.Reader as read
+use Rattle.sq_parse.specs.Reading.{after}
+use Rattle.sq_parse.proofs.Exact as exact
+use Rattle.sq_parse.proofs.ItemsExact as items
 use Rattle.sq_parse.proofs.Loops.{Shrinks, Shrinks-exact}
 use Rattle.sq_parse.proofs.OperandsExact as operands
 
@@ -14,3 +17,27 @@ no_sign = refl
 
 pub signed_term : Shrinks (read.signed_term shipped)
 signed_term = Shrinks-exact (operands.signed_term shipped) (operands.Full-signed shipped)
+
+pub no_comma : is k.Comma k.End ≡ false
+unfolding same
+no_comma = refl
+
+-- the limits of scripts allow no more beside a `*` than elsewhere
+pub nested : (n : ℕ) → shipped.narrow n ≡ true → shipped.wide n ≡ true
+nested n h = ?
+
+pub operand : Shrinks (after k.Comma (read.operand shipped))
+unfolding same
+operand = Shrinks-exact (exact.after k.Comma refl (operands.operand shipped)) (exact.Full-after k.Comma (g.operand shipped))
+
+pub simple : Shrinks (after k.Comma (read.simple shipped))
+unfolding same
+simple = Shrinks-exact (exact.after k.Comma refl (operands.simple shipped nested)) (exact.Full-after k.Comma (g.simple shipped))
+
+pub item : Shrinks (after k.Comma read.item)
+unfolding same
+item = Shrinks-exact (exact.after k.Comma refl items.item) (exact.Full-after k.Comma g.item)
+
+pub key : Shrinks (after k.Comma read.key)
+unfolding same
+key = Shrinks-exact (exact.after k.Comma refl items.key) (exact.Full-after k.Comma g.key)

@@ -53,7 +53,7 @@ module _ (limits : Limits) (nested : (n : ℕ) → limits.narrow n ≡ true → 
   unfolding read.where_condition same
   where_condition = maybe (is k.Where) begins_order (after k.Where refl (condition limits nested d)) refl refl refl
 
-  order : Exact (rule.optional (rule.after k.Order (rule.after k.By (rule.separated k.Comma g.key)))) read.order begins_order ends_statement
+  order : Exact (rule.optional (rule.after k.Order (rule.after k.By (rule.list_of k.Comma g.key)))) read.order begins_order ends_statement
   unfolding read.order same
   order = maybe (is k.Order) ends_statement (after k.Order refl (after k.By refl keys)) refl refl refl
 

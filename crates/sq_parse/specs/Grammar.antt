@@ -20,7 +20,7 @@ use Rattle.sq_parse.specs.declared.tree.Tree.TheVariants as t
 use Rattle.sq_parse.specs.Mark.{is_name, is_sign, is_comparison, is_truth, is_way, is_end}
 use Rattle.sq_parse.specs.Tok.{Tok}
 use Rattle.sq_parse.specs.Tree.{name_of, column_of, number_term, column_term, signed, sum_of, begin_of, comparison_by, truth_by, tested, all_of, any_of, source_of, joined_on, way_of, statement_of}
-use Rattle.sq_parse.specs.Rules.{Rule, token, mark, number, ◌⊗◌, ◌⊕◌, ◌⊛◌, optional, many, after, separated, enclosed, nothing}
+use Rattle.sq_parse.specs.Rules.{Rule, token, mark, number, ◌⊗◌, ◌⊕◌, ◌⊛◌, optional, many, after, separated, list_of, enclosed, nothing}
 
 -- which numbers may be written: those beside a `*`, and all others
 pub record Limits : Type 0 where
@@ -52,7 +52,7 @@ item = (λ p. shown.AllOf p.0) ⊛ (name ⊗ after k.Dot (mark k.Star)) ⊕ (λ 
 
 -- "*" | item { "," item }
 abbrev pub select_list : Rule Items
-select_list = (λ _. items.Star) ⊛ mark k.Star ⊕ (λ p. items.List (p.0 ∷ p.1)) ⊛ separated k.Comma item
+select_list = (λ _. items.Star) ⊛ mark k.Star ⊕ items.List ⊛ list_of k.Comma item
 
 -- name [ [ AS ] name ]
 abbrev pub source : Rule Source
@@ -110,8 +110,8 @@ module _ (limits : Limits) where
 
   -- operand [ NOT ] IN "(" operand { "," operand } ")"
   abbrev pub within : Rule Tree
-  within = (λ p. t.Within (begin_of p.0) (is_some p.1.0) p.0 (p.1.1.0 ∷ p.1.1.1))
-      ⊛ (operand ⊗ (optional (mark k.Not) ⊗ after k.In (enclosed (separated k.Comma operand))))
+  within = (λ p. t.Within (begin_of p.0) (is_some p.1.0) p.0 p.1.1)
+      ⊛ (operand ⊗ (optional (mark k.Not) ⊗ after k.In (enclosed (list_of k.Comma operand))))
 
   -- operand IS [ NOT ] NULL
   abbrev pub is_null : Rule Tree
@@ -119,7 +119,7 @@ module _ (limits : Limits) where
 
   -- name "(" simple { "," simple } ")"
   abbrev pub call : Rule Tree
-  call = (λ p. t.Call p.0 (p.1.0 ∷ p.1.1)) ⊛ (name ⊗ enclosed (separated k.Comma simple))
+  call = (λ p. t.Call p.0 p.1) ⊛ (name ⊗ enclosed (list_of k.Comma simple))
 
   abbrev pub predicate : Rule Tree
   predicate = compared ⊕ between ⊕ within ⊕ is_null ⊕ call
@@ -153,7 +153,7 @@ module _ (limits : Limits) where
   abbrev pub statement : ℕ → Rule Statement
   statement d = (λ p. statement_of p.1.0 p.1.1.0 p.1.1.1.0 p.1.1.1.1.0 p.1.1.1.1.1)
       ⊛ after k.Select (optional (mark k.All) ⊗ (select_list ⊗ (after k.From source ⊗ (many (join d)
-      ⊗ (optional (after k.Where (condition d)) ⊗ optional (after k.Order (after k.By (separated k.Comma key))))))))
+      ⊗ (optional (after k.Where (condition d)) ⊗ optional (after k.Order (after k.By (list_of k.Comma key))))))))
 
   -- statement { ";" statement } [ ";" ]
   abbrev pub script : ℕ → Rule Script

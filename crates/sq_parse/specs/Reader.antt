@@ -21,7 +21,7 @@ use Rattle.sq_parse.specs.declared.tree.Tree.TheVariants as t
 use Rattle.sq_parse.specs.Mark.{is, is_name, is_sign, is_comparison, is_truth, is_way, is_end}
 use Rattle.sq_parse.specs.Tok.{Tok, head, next, behind, done}
 use Rattle.sq_parse.specs.Tree.{name_of, column_of, number_term, column_term, signed, sum_of, begin_of, comparison_by, truth_by, tested, all_of, any_of, source_of, joined_on, way_of, statement_of}
-use Rattle.sq_parse.specs.Reading.{Parser, Outcome, and_then, pure, ◌>>=◌, ◌<$>◌, ◌<+>◌, token, mark, number, choose, optional, many, after, separated, closed, enclosed, refuse}
+use Rattle.sq_parse.specs.Reading.{Parser, Outcome, and_then, pure, ◌>>=◌, ◌<$>◌, ◌<+>◌, token, mark, number, choose, optional, many, after, separated, list_of, closed, enclosed, refuse}
 use Rattle.sq_parse.specs.Grammar.{Limits}
 
 unfoldable pub name : Parser Name
@@ -77,11 +77,11 @@ behind_name n = choose (is k.Dot) (after k.Dot (behind_dot n)) (column_item (col
 unfoldable pub item : Parser Item
 item = name >>= behind_name
 
-unfoldable pub items : Parser (Item × List Item)
-items = separated k.Comma item
+unfoldable pub items : Parser (List Item)
+items = list_of k.Comma item
 
 unfoldable pub select_list : Parser Items
-select_list = choose (is k.Star) ((λ _. selected.Star) <$> mark k.Star) ((λ p. selected.List (p.0 ∷ p.1)) <$> items)
+select_list = choose (is k.Star) ((λ _. selected.Star) <$> mark k.Star) (selected.List <$> items)
 
 unfoldable pub source : Parser Source
 source = (λ p. source_of p.0 p.1) <$> (name <+> optional_alias)
@@ -89,10 +89,10 @@ source = (λ p. source_of p.0 p.1) <$> (name <+> optional_alias)
 unfoldable pub key : Parser OrderItem
 key = (λ p. record { column = p.0; way = way_of p.1.0 p.1.1 }) <$> (column <+> (optional is_way (token is_way) <+> optional (is k.Nulls) (after k.Nulls (token is_end))))
 
-unfoldable pub keys : Parser (OrderItem × List OrderItem)
-keys = separated k.Comma key
+unfoldable pub keys : Parser (List OrderItem)
+keys = list_of k.Comma key
 
-unfoldable pub order : Parser (Option (OrderItem × List OrderItem))
+unfoldable pub order : Parser (Option (List OrderItem))
 order = optional (is k.Order) (after k.Order (after k.By keys))
 
 unfoldable pub conjunction : Parser Tree → Parser Tree
@@ -139,14 +139,14 @@ module _ (limits : Limits) where
   unfoldable pub simple : Parser Operand
   simple = choose is_literal literal (choose begins_number simple_number simple_column)
 
-  unfoldable pub operands : Parser (Operand × List Operand)
-  operands = separated k.Comma operand
+  unfoldable pub operands : Parser (List Operand)
+  operands = list_of k.Comma operand
 
-  unfoldable pub simples : Parser (Operand × List Operand)
-  simples = separated k.Comma simple
+  unfoldable pub simples : Parser (List Operand)
+  simples = list_of k.Comma simple
 
   unfoldable pub call : Parser Tree
-  call = (λ p. t.Call p.0 (p.1.0 ∷ p.1.1)) <$> (name <+> enclosed simples)
+  call = (λ p. t.Call p.0 p.1) <$> (name <+> enclosed simples)
 
   -- what comes behind the subject of a predicate
   unfoldable pub compared : Operand → Parser Tree
@@ -155,14 +155,14 @@ module _ (limits : Limits) where
   unfoldable pub is_null : Operand → Parser Tree
   is_null x = (λ p. t.IsNull (begin_of x) (is_some p.0) x) <$> after k.Is (optional (is k.Not) (mark k.Not) <+> mark k.Null)
 
-  unfoldable pub between : Operand → Option Tok → Parser Tree
-  between x n = (λ p. t.Between (begin_of x) (is_some n) x p.0 p.1) <$> (after k.Between operand <+> after k.And operand)
+  unfoldable pub between : Operand → Bool → Parser Tree
+  between x negated = (λ p. t.Between (begin_of x) negated x p.0 p.1) <$> (after k.Between operand <+> after k.And operand)
 
-  unfoldable pub within : Operand → Option Tok → Parser Tree
-  within x n = (λ p. t.Within (begin_of x) (is_some n) x (p.0 ∷ p.1)) <$> after k.In (enclosed operands)
+  unfoldable pub within : Operand → Bool → Parser Tree
+  within x negated = (λ all. t.Within (begin_of x) negated x all) <$> after k.In (enclosed operands)
 
   unfoldable pub ranged : Operand → Parser Tree
-  ranged x = optional (is k.Not) (mark k.Not) >>= (λ n. choose (is k.Between) (between x n) (within x n))
+  ranged x = optional (is k.Not) (mark k.Not) >>= (λ n. choose (is k.Between) (between x (is_some n)) (within x (is_some n)))
 
   unfoldable pub behind_subject : Operand → Parser Tree
   behind_subject x = choose is_comparison (compared x) (choose (is k.Is) (is_null x) (ranged x))
@@ -183,6 +183,25 @@ module _ (limits : Limits) where
   unfoldable pub neg : ℕ → Parser Tree
   neg zero = negation (refuse stop.TooDeep) (refuse stop.TooDeep)
   neg (suc d) = negation (after k.Not (neg d)) (enclosed (disjunction (neg d)))
+
+  -- NOT and what it stands before
+  unfoldable pub denied : ℕ → Parser Tree
+  denied zero = refuse stop.TooDeep
+  denied (suc d) = after k.Not (neg d)
+
+  -- a condition in parentheses
+  unfoldable pub nested : ℕ → Parser Tree
+  nested zero = refuse stop.TooDeep
+  nested (suc d) = enclosed (disjunction (neg d))
+
+  unfoldable pub primary_at : ℕ → Parser Tree
+  primary_at d = primary (nested d)
+
+  unfoldable pub test_at : ℕ → Parser Tree
+  test_at d = test (nested d)
+
+  unfoldable pub conjunction_at : ℕ → Parser Tree
+  conjunction_at d = conjunction (neg d)
 
   unfoldable pub condition : ℕ → Parser Tree
   condition d = disjunction (neg d)

@@ -70,6 +70,9 @@ after wanted p = (λ q. q.1) <$> (mark wanted <+> p)
 abbrev pub separated : {A : Type 0} → Mark → Parser A → Parser (A × List A)
 separated wanted p = p <+> many (is wanted) (after wanted p)
 
+abbrev pub list_of : {A : Type 0} → Mark → Parser A → Parser (List A)
+list_of wanted p = (λ q. q.0 ∷ q.1) <$> separated wanted p
+
 abbrev pub closed : {A : Type 0} → Parser A → Parser A
 closed p = (λ q. q.0) <$> (p <+> mark k.Close)
 

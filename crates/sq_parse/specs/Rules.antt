@@ -60,6 +60,9 @@ after wanted l = (λ p. p.1) ⊛ (mark wanted ⊗ l)
 abbrev pub separated : {A : Type 0} → Mark → Rule A → Rule (A × List A)
 separated wanted l = l ⊗ many (after wanted l)
 
+abbrev pub list_of : {A : Type 0} → Mark → Rule A → Rule (List A)
+list_of wanted l = (λ p. p.0 ∷ p.1) ⊛ separated wanted l
+
 -- a part between parentheses
 abbrev pub enclosed : {A : Type 0} → Rule A → Rule A
 enclosed l = after k.Open ((λ p. p.0) ⊛ (l ⊗ mark k.Close))

@@ -100,9 +100,5 @@ abbrev pub way_of : Option Tok → Option Tok → SortWay
 way_of way None = let falls = option_map (λ w. is k.Desc w.mark) way in record { descending = unwrap_or falls false; nulls_first = unwrap_or falls false }
 way_of way (Some end) = record { descending = unwrap_or (option_map (λ w. is k.Desc w.mark) way) false; nulls_first = is k.First end.mark }
 
-abbrev pub keys_of : Option (OrderItem × List OrderItem) → List OrderItem
-keys_of None = []
-keys_of (Some p) = p.0 ∷ p.1
-
-abbrev pub statement_of : Items → Source → List Source → Option Tree → Option (OrderItem × List OrderItem) → Statement
-statement_of selected first joined condition keys = record { items = selected; sources = first ∷ joined; condition = condition; order = keys_of keys }
+abbrev pub statement_of : Items → Source → List Source → Option Tree → Option (List OrderItem) → Statement
+statement_of selected first joined condition keys = record { items = selected; sources = first ∷ joined; condition = condition; order = unwrap_or keys [] }

@@ -7,6 +7,7 @@ mod mark;
 mod names;
 mod operand;
 mod piece;
+mod predicate;
 mod quoted;
 mod stop;
 mod token;
