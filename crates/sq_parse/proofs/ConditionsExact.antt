@@ -66,7 +66,7 @@ module _ (limits : Limits) (nested : (n : ℕ) → limits.narrow n ≡ true → 
   none_enclosed : Exact (rule.enclosed (rule.nothing {A = Tree})) (reading.refuse stop.TooDeep) (is k.Open) anything
   none_enclosed = never (rule.enclosed rule.nothing) stop.TooDeep (is k.Open) anything (λ us a h. h.1.right.1.left)
 
-  neg : (d : ℕ) → Exact (g.neg limits d) (read.neg limits d) begins_condition ends_test
+  pub neg : (d : ℕ) → Exact (g.neg limits d) (read.neg limits d) begins_condition ends_test
   unfolding read.neg same
   neg zero = negation rule.nothing rule.nothing (reading.refuse stop.TooDeep) (reading.refuse stop.TooDeep) none_after none_enclosed
   neg (suc d) = negation (g.neg limits d) (g.disjunction (g.neg limits d)) _ _ (after k.Not refl (neg d)) (closed (disjunction (g.neg limits d) (read.neg limits d) (neg d)) refl)
@@ -74,3 +74,7 @@ module _ (limits : Limits) (nested : (n : ℕ) → limits.narrow n ≡ true → 
   pub condition : (d : ℕ) → Exact (g.condition limits d) (read.condition limits d) begins_condition ends_condition
   unfolding read.condition
   condition d = disjunction (g.neg limits d) (read.neg limits d) (neg d)
+
+  pub conjunction_at : (d : ℕ) → Exact (g.conjunction (g.neg limits d)) (read.conjunction_at limits d) begins_condition ends_conjunction
+  unfolding read.conjunction_at
+  conjunction_at d = conjunction (g.neg limits d) (read.neg limits d) (neg d)

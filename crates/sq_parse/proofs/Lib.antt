@@ -11,3 +11,4 @@ pub mod ConditionsExact
 pub mod StatementsExact
 pub mod Loops
 pub mod Shrinking
+pub mod Steps

@@ -1,5 +1,6 @@
 -- What is read in a loop takes a token at least, and doesn't begin at the end.
-use Rattle.std.proofs.Common.{◌≡◌, ◌≤◌, Bool, true, false, ℕ, nat_le, refl}
+use Rattle.std.proofs.Common.{◌≡◌, Bool, true, false, ℕ, refl, arith}
+use Rattle.std.proofs.lemmas.Bool.Decides.{nat_tests}
 use Rattle.sq_parse.specs.declared.mark.Mark.TheVariants as k
 use Rattle.sq_parse.specs.Mark.{is, same, is_sign}
 use Rattle.sq_parse.specs.Grammar as g
@@ -8,6 +9,7 @@ use Rattle.sq_parse.specs.Reader as read
 use Rattle.sq_parse.specs.Reading.{after}
 use Rattle.sq_parse.proofs.Exact as exact
 use Rattle.sq_parse.proofs.ItemsExact as items
+use Rattle.sq_parse.proofs.ConditionsExact as conditions
 use Rattle.sq_parse.proofs.Loops.{Shrinks, Shrinks-exact}
 use Rattle.sq_parse.proofs.OperandsExact as operands
 
@@ -24,7 +26,7 @@ no_comma = refl
 
 -- the limits of scripts allow no more beside a `*` than elsewhere
 pub nested : (n : ℕ) → shipped.narrow n ≡ true → shipped.wide n ≡ true
-nested n h = ?
+nested n h = grind (arith, nat_tests)
 
 pub operand : Shrinks (after k.Comma (read.operand shipped))
 unfolding same
@@ -41,3 +43,19 @@ item = Shrinks-exact (exact.after k.Comma refl items.item) (exact.Full-after k.C
 pub key : Shrinks (after k.Comma read.key)
 unfolding same
 key = Shrinks-exact (exact.after k.Comma refl items.key) (exact.Full-after k.Comma g.key)
+
+pub no_and : is k.And k.End ≡ false
+unfolding same
+no_and = refl
+
+pub no_or : is k.Or k.End ≡ false
+unfolding same
+no_or = refl
+
+pub neg : (d : ℕ) → Shrinks (after k.And (read.neg shipped d))
+unfolding same
+neg d = Shrinks-exact (exact.after k.And refl (conditions.neg shipped nested d)) (exact.Full-after k.And (g.neg shipped d))
+
+pub conjunction : (d : ℕ) → Shrinks (after k.Or (read.conjunction_at shipped d))
+unfolding same
+conjunction d = Shrinks-exact (exact.after k.Or refl (conditions.conjunction_at shipped nested d)) (exact.Full-after k.Or (g.conjunction (g.neg shipped d)))

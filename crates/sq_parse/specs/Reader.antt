@@ -1,5 +1,6 @@
 -- What the parser's functions read, rule by rule.
 use Rattle.std.specs.Prelude.{ℕ, ℤ, pos, nat_le, zero, suc, Bool, ◌&&◌, ◌||◌, if◌then◌else◌, List, [], ◌∷◌, Option, Some, None, is_some, Ok, Err}
+use Rattle.sq_value.specs.declared.value.Truth.{Truth}
 use Rattle.sq_parse.specs.declared.mark.Mark.{Mark}
 use Rattle.sq_parse.specs.declared.mark.Mark.TheVariants as k
 use Rattle.sq_parse.specs.declared.stop.Stop.TheVariants as stop
@@ -103,6 +104,9 @@ disjunction neg = (λ p. any_of p.0 p.1) <$> separated k.Or (conjunction neg)
 
 abbrev pub begins_join : Mark → Bool
 begins_join m = is k.Comma m || is k.Cross m || is k.Inner m || is k.Join m
+
+unfoldable pub truth : Parser Truth
+truth = (λ m. truth_by m.mark) <$> token is_truth
 
 module _ (limits : Limits) where
   -- a number, held to the narrow bound where a `*` comes behind it

@@ -1,6 +1,7 @@
 //! The tokens, the grammar and the parser of scripts.
 #![tactic(auto)]
 
+mod condition;
 mod cursor;
 mod form;
 mod mark;
