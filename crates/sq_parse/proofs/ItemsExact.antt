@@ -1,5 +1,5 @@
 -- The readers of select lists, sources and sort keys are exact for their rules.
-use Rattle.std.proofs.Common.{◌≡◌, Bool, true, false, not, ◌&&◌, ◌||◌, ◌⊎◌, inl, inr, ℕ, List, [], ◌∷◌, ◌++◌, Option, Some, None, Ok, refl, ap, sym, ◌∙◌, cond, append_assoc, append-nil}
+use Rattle.std.proofs.Common.{◌≡◌, Bool, true, false, not, ◌&&◌, ◌||◌, ◌⊎◌, inl, inr, ℕ, List, [], ◌∷◌, ◌++◌, Option, Some, None, unwrap_or, option_map, Ok, refl, ap, sym, ◌∙◌, cond, append_assoc, append-nil}
 use Rattle.sq_parse.specs.declared.mark.Mark.{Mark}
 use Rattle.sq_parse.specs.declared.mark.Mark.TheVariants as k
 use Rattle.sq_parse.specs.declared.tree.Name.{Name}
@@ -143,9 +143,11 @@ abbrev begins_ends : Mark → Bool
 begins_ends m = is k.Nulls m || ends_key m
 
 pub key : Exact g.key read.key is_name ends_key
-unfolding read.key same
+unfolding read.key read.falls read.nulls_first same
 key = gives (λ p. record { column = p.0; way = way_of p.1.0 p.1.1 })
-    (followed column (followed (maybe is_way begins_ends (token is_way refl) refl refl (all_within begins_ends)) (maybe (is k.Nulls) ends_key (after k.Nulls refl (token is_end refl)) refl refl (all_within ends_key)) refl) refl)
+    (followed column (followed
+        (gives (λ way. unwrap_or (option_map (λ w. is k.Desc w.mark) way) false) (maybe is_way begins_ends (token is_way refl) refl refl (all_within begins_ends)))
+        (gives (λ end. option_map (λ e. is k.First e.mark) end) (maybe (is k.Nulls) ends_key (after k.Nulls refl (token is_end refl)) refl refl (all_within ends_key))) refl) refl)
 
 pub keys : Exact (rule.list_of k.Comma g.key) read.keys is_name ends_keys
 unfolding read.keys same

@@ -1,5 +1,5 @@
 -- The reader of statements is exact for its rule, and the reader of scripts for scripts of few statements.
-use Rattle.std.proofs.Common.{◌≡◌, Bool, true, false, not, ◌&&◌, ◌||◌, ⊎_elim, ℕ, zero, suc, ◌+◌, ◌≤◌, List, [], ◌∷◌, ◌++◌, length, Option, Some, None, Ok, Err, refl, ap, sym, subst, cond, ◌∙◌, append_assoc, append-nil, arith}
+use Rattle.std.proofs.Common.{◌≡◌, Bool, true, false, not, ◌&&◌, ◌||◌, ⊎_elim, ℕ, zero, suc, ◌+◌, ◌≤◌, List, [], ◌∷◌, ◌++◌, length, Option, Some, None, unwrap_or, Ok, Err, refl, ap, sym, subst, cond, ◌∙◌, append_assoc, append-nil, arith}
 use Rattle.sq_parse.specs.declared.mark.Mark.{Mark}
 use Rattle.sq_parse.specs.declared.mark.Mark.TheVariants as k
 use Rattle.sq_parse.specs.declared.stop.Stop.TheVariants as stop
@@ -53,9 +53,9 @@ module _ (limits : Limits) (nested : (n : ℕ) → limits.narrow n ≡ true → 
   unfolding read.where_condition same
   where_condition = maybe (is k.Where) begins_order (after k.Where refl (condition limits nested d)) refl refl refl
 
-  order : Exact (rule.optional (rule.after k.Order (rule.after k.By (rule.list_of k.Comma g.key)))) read.order begins_order ends_statement
+  order : Exact ((λ keys. unwrap_or keys []) ⊛ rule.optional (rule.after k.Order (rule.after k.By (rule.list_of k.Comma g.key)))) read.order begins_order ends_statement
   unfolding read.order same
-  order = maybe (is k.Order) ends_statement (after k.Order refl (after k.By refl keys)) refl refl refl
+  order = gives (λ keys. unwrap_or keys []) (maybe (is k.Order) ends_statement (after k.Order refl (after k.By refl keys)) refl refl refl)
 
   pub statement : Exact (g.statement limits d) (read.statement limits d) (is k.Select) ends_statement
   unfolding read.statement same

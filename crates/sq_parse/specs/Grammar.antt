@@ -1,5 +1,5 @@
 -- The grammar of scripts: which lists of tokens stand for which trees.
-use Rattle.std.specs.Prelude.{◌≡◌, ℕ, zero, suc, ◌≤◌, Bool, true, nat_le, ◌⊎◌, List, [], ◌∷◌, ◌++◌, length, Option, Some, None, is_some}
+use Rattle.std.specs.Prelude.{◌≡◌, ℕ, zero, suc, ◌≤◌, Bool, true, nat_le, ◌⊎◌, List, [], ◌∷◌, ◌++◌, length, Option, Some, None, is_some, option_map, unwrap_or, false}
 use Rattle.sq_parse.specs.declared.mark.Mark.{Mark}
 use Rattle.sq_parse.specs.declared.mark.Mark.TheVariants as k
 use Rattle.sq_parse.specs.declared.tree.Name.{Name}
@@ -17,7 +17,7 @@ use Rattle.sq_parse.specs.declared.tree.Operand.{Operand}
 use Rattle.sq_parse.specs.declared.tree.Operand.TheVariants as o
 use Rattle.sq_parse.specs.declared.tree.Tree.{Tree}
 use Rattle.sq_parse.specs.declared.tree.Tree.TheVariants as t
-use Rattle.sq_parse.specs.Mark.{is_name, is_sign, is_comparison, is_truth, is_way, is_end}
+use Rattle.sq_parse.specs.Mark.{is, is_name, is_sign, is_comparison, is_truth, is_way, is_end}
 use Rattle.sq_parse.specs.Tok.{Tok}
 use Rattle.sq_parse.specs.Tree.{name_of, column_of, number_term, column_term, signed, sum_of, begin_of, comparison_by, truth_by, tested, all_of, any_of, source_of, joined_on, way_of, statement_of}
 use Rattle.sq_parse.specs.Rules.{Rule, token, mark, number, ◌⊗◌, ◌⊕◌, ◌⊛◌, optional, many, after, separated, list_of, enclosed, nothing}
@@ -60,7 +60,9 @@ source = (λ p. source_of p.0 p.1) ⊛ (name ⊗ optional alias)
 
 -- column [ ASC | DESC ] [ NULLS ( FIRST | LAST ) ]
 abbrev pub key : Rule OrderItem
-key = (λ p. record { column = p.0; way = way_of p.1.0 p.1.1 }) ⊛ (column ⊗ (optional (token is_way) ⊗ optional (after k.Nulls (token is_end))))
+key = (λ p. record { column = p.0; way = way_of p.1.0 p.1.1 })
+    ⊛ (column ⊗ ((λ way. unwrap_or (option_map (λ w. is k.Desc w.mark) way) false) ⊛ optional (token is_way)
+    ⊗ (λ end. option_map (λ e. is k.First e.mark) end) ⊛ optional (after k.Nulls (token is_end))))
 
 -- neg { AND neg }
 abbrev pub conjunction : Rule Tree → Rule Tree
@@ -153,7 +155,7 @@ module _ (limits : Limits) where
   abbrev pub statement : ℕ → Rule Statement
   statement d = (λ p. statement_of p.1.0 p.1.1.0 p.1.1.1.0 p.1.1.1.1.0 p.1.1.1.1.1)
       ⊛ after k.Select (optional (mark k.All) ⊗ (select_list ⊗ (after k.From source ⊗ (many (join d)
-      ⊗ (optional (after k.Where (condition d)) ⊗ optional (after k.Order (after k.By (list_of k.Comma key))))))))
+      ⊗ (optional (after k.Where (condition d)) ⊗ (λ keys. unwrap_or keys []) ⊛ optional (after k.Order (after k.By (list_of k.Comma key))))))))
 
   -- statement { ";" statement } [ ";" ]
   abbrev pub script : ℕ → Rule Script

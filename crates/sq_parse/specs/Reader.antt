@@ -1,5 +1,5 @@
 -- What the parser's functions read, rule by rule.
-use Rattle.std.specs.Prelude.{ℕ, ℤ, pos, nat_le, zero, suc, Bool, ◌&&◌, ◌||◌, if◌then◌else◌, List, [], ◌∷◌, Option, Some, None, is_some, Ok, Err}
+use Rattle.std.specs.Prelude.{ℕ, ℤ, pos, nat_le, zero, suc, Bool, ◌&&◌, ◌||◌, if◌then◌else◌, List, [], ◌∷◌, Option, Some, None, is_some, option_map, unwrap_or, true, false, Ok, Err}
 use Rattle.sq_value.specs.declared.value.Truth.{Truth}
 use Rattle.sq_parse.specs.declared.mark.Mark.{Mark}
 use Rattle.sq_parse.specs.declared.mark.Mark.TheVariants as k
@@ -87,14 +87,22 @@ select_list = choose (is k.Star) ((λ _. selected.Star) <$> mark k.Star) (select
 unfoldable pub source : Parser Source
 source = (λ p. source_of p.0 p.1) <$> (name <+> optional_alias)
 
+-- whether DESC comes next; ASC may come in its place
+unfoldable pub falls : Parser Bool
+falls = (λ way. unwrap_or (option_map (λ w. is k.Desc w.mark) way) false) <$> optional is_way (token is_way)
+
+-- whether nulls come first, where it is said
+unfoldable pub nulls_first : Parser (Option Bool)
+nulls_first = (λ end. option_map (λ e. is k.First e.mark) end) <$> optional (is k.Nulls) (after k.Nulls (token is_end))
+
 unfoldable pub key : Parser OrderItem
-key = (λ p. record { column = p.0; way = way_of p.1.0 p.1.1 }) <$> (column <+> (optional is_way (token is_way) <+> optional (is k.Nulls) (after k.Nulls (token is_end))))
+key = (λ p. record { column = p.0; way = record { descending = p.1.0; nulls_first = unwrap_or p.1.1 p.1.0 } }) <$> (column <+> (falls <+> nulls_first))
 
 unfoldable pub keys : Parser (List OrderItem)
 keys = list_of k.Comma key
 
-unfoldable pub order : Parser (Option (List OrderItem))
-order = optional (is k.Order) (after k.Order (after k.By keys))
+unfoldable pub order : Parser (List OrderItem)
+order = (λ keys. unwrap_or keys []) <$> optional (is k.Order) (after k.Order (after k.By keys))
 
 unfoldable pub conjunction : Parser Tree → Parser Tree
 conjunction neg = (λ p. all_of p.0 p.1) <$> separated k.And neg

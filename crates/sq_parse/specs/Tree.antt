@@ -96,9 +96,8 @@ abbrev pub joined_on : Source → Tree → Source
 joined_on source tree = record source { on = Some tree }
 
 -- nulls come last where the order rises and first where it falls, unless NULLS says otherwise
-abbrev pub way_of : Option Tok → Option Tok → SortWay
-way_of way None = let falls = option_map (λ w. is k.Desc w.mark) way in record { descending = unwrap_or falls false; nulls_first = unwrap_or falls false }
-way_of way (Some end) = record { descending = unwrap_or (option_map (λ w. is k.Desc w.mark) way) false; nulls_first = is k.First end.mark }
+abbrev pub way_of : Bool → Option Bool → SortWay
+way_of falls nulls_first = record { descending = falls; nulls_first = unwrap_or nulls_first falls }
 
-abbrev pub statement_of : Items → Source → List Source → Option Tree → Option (List OrderItem) → Statement
-statement_of selected first joined condition keys = record { items = selected; sources = first ∷ joined; condition = condition; order = unwrap_or keys [] }
+abbrev pub statement_of : Items → Source → List Source → Option Tree → List OrderItem → Statement
+statement_of selected first joined condition keys = record { items = selected; sources = first ∷ joined; condition = condition; order = keys }

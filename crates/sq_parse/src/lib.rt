@@ -10,6 +10,7 @@ mod operand;
 mod piece;
 mod predicate;
 mod quoted;
+mod select;
 mod stop;
 mod token;
 mod tree;
