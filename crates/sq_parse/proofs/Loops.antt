@@ -120,3 +120,30 @@ pub list_fails : {A : Type 0} (wanted : Mark) (p : Parser A) (ts : List Tok) (a 
     → p ts ≡ Ok (a, ts₀) → IsErrAnd r (λ e. e ≡ s) → ReadsMore found₀ (many (is wanted) (after wanted p) ts₀) r rest → Reads (list_of wanted p ts) r rest
 list_fails wanted p ts a found₀ ts₀ (Ok x) s rest one h more = absurd h
 list_fails wanted p ts a found₀ ts₀ (Err e) s rest one h more = λ other. rw (one, more other) refl
+
+-- ---- a loop whose rest is any outcome
+
+pub record MoreSoFar {A : Type 0} (found₀ : List A) (whole : Outcome (List A)) (found : List A) (rest : Outcome (List A)) : Type 0 where
+  pub front : found ≡ found₀ ++ drop (length found₀) found
+  pub is : whole ≡ and_then rest (λ more. pure (drop (length found₀) found ++ more))
+
+pub more_start : {A : Type 0} (found : List A) (o : Outcome (List A)) → MoreSoFar found o found o
+more_start found o = record { front = rw (drop_all found) (sym (append-nil found)); is = rw (drop_all found) (pure_again o) }
+
+pub more_step : {A : Type 0} (found₀ : List A) (whole : Outcome (List A)) (found new : List A) (a : A) (o o' : Outcome (List A))
+    → MoreSoFar found₀ whole found o → o ≡ and_then o' (λ more. pure (a ∷ more)) → new ≡ found ++ a ∷ [] → MoreSoFar found₀ whole new o'
+more_step found₀ whole found new a o o' r step pushed =
+    let few : length found₀ ≤ length found = (let e : length found ≡ length found₀ + length (drop (length found₀) found) = ap length r.front ∙ length-append found₀ (drop (length found₀) found) in omega arith) in
+    let cut : drop (length found₀) new ≡ drop (length found₀) found ++ a ∷ [] = rw pushed (drop-append-le (length found₀) found (a ∷ []) few) in
+    record {
+      front = rw cut (pushed ∙ (ap (λ z. z ++ a ∷ []) r.front ∙ append_assoc found₀ (drop (length found₀) found) (a ∷ [])));
+      is = rw cut (r.is ∙ (ap (λ x. and_then x (λ more. pure (drop (length found₀) found ++ more))) step ∙ pushed_again o' (drop (length found₀) found) a));
+    }
+
+pub more_done : {A : Type 0} (found₀ : List A) (whole : Outcome (List A)) (found : List A) (o : Outcome (List A)) (ts : List Tok) → MoreSoFar found₀ whole found o → o ≡ Ok ([], ts) → ReadsMore found₀ whole (Ok found) ts
+more_done found₀ whole found o ts r none = (r.front, r.is ∙ (rw none (ap (λ ys. Ok (ys, ts)) (append-nil (drop (length found₀) found)))))
+
+pub more_error : {A : Type 0} (found₀ : List A) (whole : Outcome (List A)) (found : List A) (o : Outcome (List A)) (s : Stop) (rest : List Tok) (r : Result (List A) Stop)
+    → IsErrAnd r (λ e. e ≡ s) → MoreSoFar found₀ whole found o → (s ≢ stop.Memory → o ≡ Err (s, rest)) → ReadsMore found₀ whole r rest
+more_error found₀ whole found o s rest (Ok x) h r fails = absurd h
+more_error found₀ whole found o s rest (Err e) h r fails = λ other. r.is ∙ rw (fails (λ is. other (h ∙ is)), h) refl

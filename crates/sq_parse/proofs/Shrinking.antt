@@ -10,6 +10,7 @@ use Rattle.sq_parse.specs.Reading.{after}
 use Rattle.sq_parse.proofs.Exact as exact
 use Rattle.sq_parse.proofs.ItemsExact as items
 use Rattle.sq_parse.proofs.ConditionsExact as conditions
+use Rattle.sq_parse.proofs.StatementsExact as statements
 use Rattle.sq_parse.proofs.Loops.{Shrinks, Shrinks-exact}
 use Rattle.sq_parse.proofs.OperandsExact as operands
 
@@ -59,3 +60,10 @@ neg d = Shrinks-exact (exact.after k.And refl (conditions.neg shipped nested d))
 pub conjunction : (d : ℕ) → Shrinks (after k.Or (read.conjunction_at shipped d))
 unfolding same
 conjunction d = Shrinks-exact (exact.after k.Or refl (conditions.conjunction_at shipped nested d)) (exact.Full-after k.Or (g.conjunction (g.neg shipped d)))
+
+pub no_join : read.begins_join k.End ≡ false
+unfolding same
+no_join = refl
+
+pub join : (d : ℕ) → Shrinks (read.join shipped d)
+join d = Shrinks-exact (statements.join shipped nested d) (statements.Full-join shipped nested d)

@@ -41,11 +41,11 @@ module _ (limits : Limits) (nested : (n : ℕ) → limits.narrow n ≡ true → 
   joined = gives (λ p. joined_on p.1.0 p.1.1) (followed (maybe (is k.Inner) (is k.Join) (token (is k.Inner) refl) refl refl refl)
       (followed (after k.Join refl source) (after k.On refl (condition limits nested d)) refl) refl)
 
-  join : Exact (g.join limits d) (read.join limits d) read.begins_join ends_join
+  pub join : Exact (g.join limits d) (read.join limits d) read.begins_join ends_join
   unfolding read.join same
   join = weaker read.begins_join ends_join (either (is k.Comma) (after k.Comma refl source) (either (is k.Cross) (after k.Cross refl (after k.Join refl source)) joined refl refl) refl refl) refl refl
 
-  Full-join : Full (g.join limits d)
+  pub Full-join : Full (g.join limits d)
   Full-join = Full-either _ _ (Full-after k.Comma g.source) (Full-either _ _ (Full-after k.Cross (rule.after k.Join g.source))
       (Full-gives (λ p. joined_on p.1.0 p.1.1) (Full-right _ _ (Full-left _ _ (Full-after k.Join g.source)))))
 
@@ -58,12 +58,12 @@ module _ (limits : Limits) (nested : (n : ℕ) → limits.narrow n ≡ true → 
   order = gives (λ keys. unwrap_or keys []) (maybe (is k.Order) ends_statement (after k.Order refl (after k.By refl keys)) refl refl refl)
 
   pub statement : Exact (g.statement limits d) (read.statement limits d) (is k.Select) ends_statement
-  unfolding read.statement same
-  statement = gives (λ p. statement_of p.1.0 p.1.1.0 p.1.1.1.0 p.1.1.1.1.0 p.1.1.1.1.1)
+  unfolding read.statement read.sources same
+  statement = gives (λ p. statement_of p.1.0 p.1.1.0 p.1.1.1.0 p.1.1.1.1)
       (after k.Select refl (followed (maybe (is k.All) (λ m. is k.Star m || is_name m) (token (is k.All) refl) refl refl refl)
-      (followed select_list (followed (after k.From refl source)
-      (followed (repeated (g.join limits d) (read.join limits d) read.begins_join ends_join read.begins_join begins_where join refl refl refl refl Full-join)
-      (followed where_condition order refl) refl) refl) refl) refl))
+      (followed select_list (followed (after k.From refl (gives (λ p. p.0 ∷ p.1) (followed source
+          (repeated (g.join limits d) (read.join limits d) read.begins_join ends_join read.begins_join begins_where join refl refl refl refl Full-join) refl)))
+      (followed where_condition order refl) refl) refl) refl))
 
   -- ---- scripts
 
@@ -134,7 +134,7 @@ module _ (limits : Limits) (nested : (n : ℕ) → limits.narrow n ≡ true → 
       (λ h. let pair = Ok-value h.1 in stopped (ap (λ z. z.0) pair) (ap (λ z. z.1) pair))
       (if_ok (is k.Semicolon (next ts)) _ (reading.pure [] ts) (xs, rest) e)
 
-  refused : (ts : List Tok) (v : List Statement × List Tok) → reading.choose (is k.Select) (reading.refuse stop.TooManyStatements) (reading.refuse stop.Syntax) ts ≡ Ok v → ⊥
+  refused : (ts : List Tok) (v : List Statement × List Tok) → read.no_more limits ts ≡ Ok v → ⊥
   refused ts v e = ⊎_elim (λ h. Err-Ok h.1) (λ h. Err-Ok h.1) (if_ok (is k.Select (next ts)) (reading.refuse stop.TooManyStatements ts) (reading.refuse stop.Syntax ts) v e)
 
   no_more : Rest [] []
@@ -149,7 +149,7 @@ module _ (limits : Limits) (nested : (n : ℕ) → limits.narrow n ≡ true → 
   took_none : (n : ℕ) (ts : List Tok) (xs : List Statement) (rest us : List Tok) → Rest us [] → ts ≡ us ++ rest → [] ≡ xs → Took n ts xs rest
   took_none n ts xs rest us r e is = (us, subst (λ ys. Rest us ys) is r, e, subst (λ ys. length ys ≤ n) is (omega arith))
 
-  took_zero : (ts : List Tok) (xs : List Statement) (rest : List Tok) → Went (reading.choose (is k.Select) (reading.refuse stop.TooManyStatements) (reading.refuse stop.Syntax)) ts xs rest → Took 0 ts xs rest
+  took_zero : (ts : List Tok) (xs : List Statement) (rest : List Tok) → Went (read.no_more limits) ts xs rest → Took 0 ts xs rest
   took_zero ts xs rest (stopped a b) = took_none 0 ts xs rest [] no_more b a
   took_zero ts xs rest (ended t e f a) = took_none 0 ts xs rest (t ∷ []) (one_more t e) f a
   took_zero ts xs rest (went t w e f g) = absurd (refused w (xs, rest) g)

@@ -153,9 +153,9 @@ module _ (limits : Limits) where
 
   -- SELECT [ ALL ] items FROM source { join } [ WHERE cond ] [ ORDER BY key { "," key } ]
   abbrev pub statement : ℕ → Rule Statement
-  statement d = (λ p. statement_of p.1.0 p.1.1.0 p.1.1.1.0 p.1.1.1.1.0 p.1.1.1.1.1)
-      ⊛ after k.Select (optional (mark k.All) ⊗ (select_list ⊗ (after k.From source ⊗ (many (join d)
-      ⊗ (optional (after k.Where (condition d)) ⊗ (λ keys. unwrap_or keys []) ⊛ optional (after k.Order (after k.By (list_of k.Comma key))))))))
+  statement d = (λ p. statement_of p.1.0 p.1.1.0 p.1.1.1.0 p.1.1.1.1)
+      ⊛ after k.Select (optional (mark k.All) ⊗ (select_list ⊗ (after k.From ((λ p. p.0 ∷ p.1) ⊛ (source ⊗ many (join d)))
+      ⊗ (optional (after k.Where (condition d)) ⊗ (λ keys. unwrap_or keys []) ⊛ optional (after k.Order (after k.By (list_of k.Comma key)))))))
 
   -- statement { ";" statement } [ ";" ]
   abbrev pub script : ℕ → Rule Script

@@ -227,10 +227,16 @@ module _ (limits : Limits) where
   unfoldable pub where_condition : ℕ → Parser (Option Tree)
   where_condition d = optional (is k.Where) (after k.Where (condition d))
 
+  unfoldable pub sources : ℕ → Parser (List Source)
+  sources d = (λ p. p.0 ∷ p.1) <$> (source <+> many begins_join (join d))
+
   unfoldable pub statement : ℕ → Parser Statement
-  statement d = (λ p. statement_of p.1.0 p.1.1.0 p.1.1.1.0 p.1.1.1.1.0 p.1.1.1.1.1)
-      <$> after k.Select (optional (is k.All) (mark k.All) <+> (select_list <+> (after k.From source <+> (many begins_join (join d)
-      <+> (where_condition d <+> order)))))
+  statement d = (λ p. statement_of p.1.0 p.1.1.0 p.1.1.1.0 p.1.1.1.1)
+      <$> after k.Select (optional (is k.All) (mark k.All) <+> (select_list <+> (after k.From (sources d) <+> (where_condition d <+> order))))
+
+  -- why no further statement is read
+  abbrev pub no_more : Parser (List Statement)
+  no_more = choose (is k.Select) (refuse stop.TooManyStatements) (refuse stop.Syntax)
 
   -- behind a semicolon, the end or one more statement
   abbrev pub after_semicolon : Parser (List Statement) → Parser (List Statement)
@@ -238,7 +244,7 @@ module _ (limits : Limits) where
 
   -- the statements behind the first, at most this many
   unfoldable pub statements : ℕ → ℕ → Parser (List Statement)
-  statements d zero = after_semicolon (choose (is k.Select) (refuse stop.TooManyStatements) (refuse stop.Syntax))
+  statements d zero = after_semicolon no_more
   statements d (suc n) = after_semicolon (statement d >>= (λ s. (λ more. s ∷ more) <$> statements d n))
 
   -- a whole list of tokens, as a script of a statement and at most this many more

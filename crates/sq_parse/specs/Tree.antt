@@ -99,5 +99,5 @@ joined_on source tree = record source { on = Some tree }
 abbrev pub way_of : Bool → Option Bool → SortWay
 way_of falls nulls_first = record { descending = falls; nulls_first = unwrap_or nulls_first falls }
 
-abbrev pub statement_of : Items → Source → List Source → Option Tree → List OrderItem → Statement
-statement_of selected first joined condition keys = record { items = selected; sources = first ∷ joined; condition = condition; order = keys }
+abbrev pub statement_of : Items → List Source → Option Tree → List OrderItem → Statement
+statement_of selected sources condition keys = record { items = selected; sources = sources; condition = condition; order = keys }

@@ -11,6 +11,7 @@ mod piece;
 mod predicate;
 mod quoted;
 mod select;
+mod statement;
 mod stop;
 mod token;
 mod tree;
