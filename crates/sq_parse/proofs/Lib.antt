@@ -12,3 +12,4 @@ pub mod StatementsExact
 pub mod Loops
 pub mod Shrinking
 pub mod Steps
+pub mod ParseLemmas

@@ -7,7 +7,7 @@ use Rattle.sq_parse.specs.declared.stop.Stop.{Stop}
 use Rattle.sq_parse.specs.declared.stop.Stop.TheVariants as stop
 use Rattle.sq_parse.specs.declared.tree.Tree.{Tree}
 use Rattle.sq_parse.specs.Mark.{is}
-use Rattle.sq_parse.specs.Tok.{Tok, next, behind}
+use Rattle.sq_parse.specs.Tok.{Tok, next, behind, done}
 use Rattle.sq_parse.specs.Grammar.{Limits}
 use Rattle.sq_parse.specs.Reading.{Parser, Outcome, and_then, pure, refuse, after, enclosed, many, separated, Reads, ReadsMore, ◌<$>◌}
 use Rattle.sq_parse.specs.Reader as read
@@ -96,3 +96,27 @@ module _ (wanted : Mark) (p : Parser Tree) (f : Tree → List Tree → Tree) (re
       let some = some_more u (drop 1 all) v begins others in
       let joined : f a (drop 1 all) ≡ c all = ap (λ ys. f a ys) some.2 ∙ (joins a some.0 some.1 ∙ ap (λ ys. c (a ∷ ys)) (sym some.2) ∙ ap c (sym whole)) in
       rw (one, others) (ap (λ x. Ok (x, v)) joined)
+
+-- ---- statements
+
+module _ (limits : Limits) (d : ℕ) where
+  pub statements_stop : (n : ℕ) (ts : List Tok) → is k.Semicolon (next ts) ≡ false → read.statements limits d n ts ≡ Ok ([], ts)
+  unfolding read.statements
+  statements_stop zero ts e = rw e refl
+  statements_stop (suc n) ts e = rw e refl
+
+  pub statements_end : (n : ℕ) (ts : List Tok) → is k.Semicolon (next ts) ≡ true → done (behind ts) ≡ true → read.statements limits d n ts ≡ Ok ([], behind ts)
+  unfolding read.statements
+  statements_end zero ts e f = rw (e, f) refl
+  statements_end (suc n) ts e f = rw (e, f) refl
+
+  pub statements_none : (n : ℕ) (ts : List Tok) → n ≡ 0 → is k.Semicolon (next ts) ≡ true → done (behind ts) ≡ false → read.statements limits d n ts ≡ read.no_more limits (behind ts)
+  unfolding read.statements
+  statements_none zero ts z e f = rw (e, f) refl
+  statements_none (suc n) ts z e f = absurd (omega arith)
+
+  pub statements_more : (n : ℕ) (ts : List Tok) → 0 < n → is k.Semicolon (next ts) ≡ true → done (behind ts) ≡ false
+      → read.statements limits d n ts ≡ and_then (read.statement limits d (behind ts)) (λ s. (λ more. s ∷ more) <$> read.statements limits d (n - 1))
+  unfolding read.statements
+  statements_more zero ts z e f = absurd (omega arith)
+  statements_more (suc n) ts z e f = let same : suc n - 1 ≡ n = omega arith in rw (e, f, same) refl

@@ -10,3 +10,4 @@ pub mod Reading
 pub mod Tree
 pub mod Grammar
 pub mod Reader
+pub mod Parse

@@ -7,6 +7,7 @@ mod form;
 mod mark;
 mod names;
 mod operand;
+mod parser;
 mod piece;
 mod predicate;
 mod quoted;
@@ -16,11 +17,11 @@ mod stop;
 mod token;
 mod tree;
 
-pub use cursor::Cursor;
-pub use mark::{Mark, mark_of, same};
-pub use stop::Stop;
+pub use parser::{ParseFault, parse};
 pub use token::{Span, Token, TokenKind, tokens};
-pub use tree::{ColRef, Item, Items, Name, Operand, OrderItem, RawTerm, Script, Source, Statement, Tree};
+pub use tree::{
+    ColRef, Item, Items, Name, Operand, OrderItem, RawTerm, Script, Source, Statement, Tree,
+};
 
 #[cfg(test)]
 mod tests;
