@@ -42,12 +42,12 @@ token_takes : (p : Mark → Bool) → p k.End ≡ false → (ts : List Tok) (a :
 token_takes p none [] a rest e = absurd (Err-Ok (rw none at e))
 token_takes p none (t ∷ ts) a rest e =
     ⊎_elim
-        (λ h. let pair = Ok-value h.1 in
-            let first : t ≡ a = ap (λ z. z.0) pair in
-            let others : ts ≡ rest = ap (λ z. z.1) pair in
-            (t ∷ [], (ap (λ x. x ∷ []) first, subst (λ x. p x.mark ≡ true) first h.0), ap (λ x. t ∷ x) others))
-        (λ h. absurd (Err-Ok h.1))
-        (if_ok (p t.mark) (Ok (t, ts)) (Err (stop.Syntax, t ∷ ts)) (a, rest) e)
+    (λ h. let pair = Ok-value h.1 in
+    let first : t ≡ a = ap (λ z. z.0) pair in
+    let others : ts ≡ rest = ap (λ z. z.1) pair in
+    (t ∷ [], (ap (λ x. x ∷ []) first, subst (λ x. p x.mark ≡ true) first h.0), ap (λ x. t ∷ x) others))
+    (λ h. absurd (Err-Ok h.1))
+    (if_ok (p t.mark) (Ok (t, ts)) (Err (stop.Syntax, t ∷ ts)) (a, rest) e)
 
 token_again : (p : Mark → Bool) (us : List Tok) (a : Tok) (w : List Tok) → rule.token p us a → read.token p (us ++ w) ≡ Ok (a, w)
 token_again p us a w h = rw (h.0, h.1)
@@ -104,10 +104,11 @@ then_takes {l = l} {r = r} {p = p} {q = q} first second ts c rest e =
     let x = first ts o.0 o.1 o.2 in
     let y = second o.1 i.0 i.1 i.2 in
     let made : (o.0, i.0) ≡ c = ap (λ z. z.0) pair in
-    let left : i.1 ≡ rest = ap (λ z. z.1) pair in
-    (x.0 ++ y.0,
-     record { first = x.0; second = y.0; parts = refl; left = subst (λ d. l x.0 d.0) made x.1; right = subst (λ d. r y.0 d.1) made y.1 },
-     x.2 ∙ (ap (λ m. x.0 ++ m) (y.2 ∙ ap (λ m. y.0 ++ m) left) ∙ sym (append_assoc x.0 y.0 rest)))
+    let left : i.1 ≡ rest = ap (λ z. z.1) pair in (
+      x.0 ++ y.0,
+      record { first = x.0; second = y.0; parts = refl; left = subst (λ d. l x.0 d.0) made x.1; right = subst (λ d. r y.0 d.1) made y.1 },
+      x.2 ∙ (ap (λ m. x.0 ++ m) (y.2 ∙ ap (λ m. y.0 ++ m) left) ∙ sym (append_assoc x.0 y.0 rest)),
+    )
 
 then_again : {A B : Type 0} {l : List Tok → A → Type 0} {r : List Tok → B → Type 0} {p : Parser A} {q : Parser B} {s f s' f' : Mark → Bool}
     → Exact l p s f → Exact r q s' f' → within s' f ≡ true → (us : List Tok) (c : A × B) (w : List Tok) → Then l r us c.0 c.1 → f' (next w) ≡ true → (p <+> q) (us ++ w) ≡ Ok (c, w)
@@ -226,15 +227,16 @@ module _ {A : Type 0} (l : List Tok → A → Type 0) (p : Parser A) (s f test f
       ([], subst (λ ys. rule.many l [] ys) (ap (λ z. z.0) pair) refl, ap (λ z. z.1) pair)
   many_takes (suc n) ts xs rest e = ⊎_elim
       (λ h. let o = and_then_ok (p ts) (λ a. ◌<$>◌ (λ more. a ∷ more) (read.many_within test p n)) (xs, rest) h.1 in
-          let i = and_then_ok (read.many_within test p n o.1) (λ more. read.pure (o.0 ∷ more)) (xs, rest) o.3 in
-          let pair = Ok-value i.3 in
-          let one = x.takes ts o.0 o.1 o.2 in
-          let others = many_takes n o.1 i.0 i.1 i.2 in
-          (one.0 ++ others.0,
-           subst (λ ys. rule.many l (one.0 ++ others.0) ys) (ap (λ z. z.0) pair) (one.0, others.0, refl, one.1, others.1),
-           one.2 ∙ (ap (λ m. one.0 ++ m) (others.2 ∙ ap (λ m. others.0 ++ m) (ap (λ z. z.1) pair)) ∙ sym (append_assoc one.0 others.0 rest))))
+      let i = and_then_ok (read.many_within test p n o.1) (λ more. read.pure (o.0 ∷ more)) (xs, rest) o.3 in
+      let pair = Ok-value i.3 in
+      let one = x.takes ts o.0 o.1 o.2 in
+      let others = many_takes n o.1 i.0 i.1 i.2 in (
+        one.0 ++ others.0,
+        subst (λ ys. rule.many l (one.0 ++ others.0) ys) (ap (λ z. z.0) pair) (one.0, others.0, refl, one.1, others.1),
+        one.2 ∙ (ap (λ m. one.0 ++ m) (others.2 ∙ ap (λ m. others.0 ++ m) (ap (λ z. z.1) pair)) ∙ sym (append_assoc one.0 others.0 rest)),
+      ))
       (λ h. let pair = Ok-value h.1 in
-          ([], subst (λ ys. rule.many l [] ys) (ap (λ z. z.0) pair) refl, ap (λ z. z.1) pair))
+      ([], subst (λ ys. rule.many l [] ys) (ap (λ z. z.0) pair) refl, ap (λ z. z.1) pair))
       (if_ok (test (next ts)) _ _ (xs, rest) e)
 
   joins : (m : Mark) → (s m || f' m) ≡ true → f m ≡ true
@@ -279,14 +281,14 @@ number_takes : (w : ℕ → Bool) (ts : List Tok) (a : Tok) (rest : List Tok) �
 number_takes w [] a rest e = absurd (Err-Ok (rw no_number at e))
 number_takes w (t ∷ ts) a rest e =
     ⊎_elim
-        (λ h. ⊎_elim
-            (λ i. let pair = Ok-value i.1 in
-                let first : t ≡ a = ap (λ z. z.0) pair in
-                (t ∷ [], (ap (λ x. x ∷ []) first, subst (λ x. is k.Number x.mark ≡ true) first h.0, subst (λ x. w x.number ≡ true) first i.0), ap (λ x. t ∷ x) (ap (λ z. z.1) pair)))
-            (λ i. absurd (Err-Ok i.1))
-            (if_ok (w t.number) (Ok (t, ts)) (Err (stop.NumberTooLarge, t ∷ ts)) (a, rest) h.1))
-        (λ h. absurd (Err-Ok h.1))
-        (if_ok (is k.Number t.mark) _ (Err (stop.Syntax, t ∷ ts)) (a, rest) e)
+    (λ h. ⊎_elim
+    (λ i. let pair = Ok-value i.1 in
+    let first : t ≡ a = ap (λ z. z.0) pair in
+    (t ∷ [], (ap (λ x. x ∷ []) first, subst (λ x. is k.Number x.mark ≡ true) first h.0, subst (λ x. w x.number ≡ true) first i.0), ap (λ x. t ∷ x) (ap (λ z. z.1) pair)))
+    (λ i. absurd (Err-Ok i.1))
+    (if_ok (w t.number) (Ok (t, ts)) (Err (stop.NumberTooLarge, t ∷ ts)) (a, rest) h.1))
+    (λ h. absurd (Err-Ok h.1))
+    (if_ok (is k.Number t.mark) _ (Err (stop.Syntax, t ∷ ts)) (a, rest) e)
 
 pub number : (w : ℕ → Bool) → Exact (rule.number w) (read.number w) (is k.Number) (λ _. true)
 number w = record {
@@ -327,10 +329,11 @@ chain_takes : {A B : Type 0} {l : List Tok → A → Type 0} {r : A → List Tok
 chain_takes {p = p} {q = q} first second ts b rest e =
     let o = and_then_ok (p ts) q (b, rest) e in
     let x = first ts o.0 o.1 o.2 in
-    let y = second o.0 o.1 b rest o.3 in
-    (x.0 ++ y.0,
-     record { first = x.0; second = y.0; between = o.0; parts = refl; left = x.1; right = y.1 },
-     x.2 ∙ (ap (λ m. x.0 ++ m) y.2 ∙ sym (append_assoc x.0 y.0 rest)))
+    let y = second o.0 o.1 b rest o.3 in (
+      x.0 ++ y.0,
+      record { first = x.0; second = y.0; between = o.0; parts = refl; left = x.1; right = y.1 },
+      x.2 ∙ (ap (λ m. x.0 ++ m) y.2 ∙ sym (append_assoc x.0 y.0 rest)),
+    )
 
 pub chained : {A B : Type 0} {l : List Tok → A → Type 0} {r : A → List Tok → B → Type 0} {p : Parser A} {q : A → Parser B} {s f s' f' : Mark → Bool}
     → Exact l p s f → ((a : A) → Exact (r a) (q a) s' f') → within s' f ≡ true → Exact (Chain l r) (p >>= q) s f'

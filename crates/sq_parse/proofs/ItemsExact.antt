@@ -51,54 +51,111 @@ item_by_name = Chain g.name (λ n. rule.after k.Dot (dot_rest n) ⊕ column_rest
 to_column : (us first second cf cs : List Tok) (n : Name) (o : Option Name) (c : ColRef) (al : Option Name) (a : Item) → us ≡ first ++ second → first ≡ cf ++ cs → g.name cf n
     → rule.optional (rule.after k.Dot g.name) cs o → column_of n o ≡ c → rule.optional g.alias second al → shown.Col c al ≡ a → item_by_name us a
 to_column us first second cf cs n None c al a parts inner left none made aliased is =
-    record { first = cf; second = second; between = n; left = left;
+    record {
+      first = cf;
+      second = second;
+      between = n;
+      left = left;
       parts = parts ∙ ap (λ x. x ++ second) (inner ∙ (ap (λ x. cf ++ x) none ∙ append-nil cf));
-      right = inr (al, aliased, ap (λ d. shown.Col d al) made ∙ is) }
+      right = inr (al, aliased, ap (λ d. shown.Col d al) made ∙ is);
+    }
 to_column us first second cf cs n (Some m) c al a parts inner left dotted made aliased is =
     let d = dotted.1 in
     let same_name : dotted.0.1 ≡ m = dotted.2 in
-    record { first = cf; second = cs ++ second; between = n; left = left;
+    record {
+      first = cf;
+      second = cs ++ second;
+      between = n;
+      left = left;
       parts = parts ∙ (ap (λ x. x ++ second) inner ∙ append_assoc cf cs second);
-      right = inl ((dotted.0.0, a),
-        record { first = d.first; second = d.second ++ second; left = d.left;
+      right = inl (
+        (dotted.0.0, a),
+        record {
+          first = d.first;
+          second = d.second ++ second;
+          left = d.left;
           parts = ap (λ x. x ++ second) d.parts ∙ append_assoc d.first d.second second;
-          right = inr (record { first = d.second; second = second; between = dotted.0.1; parts = refl; left = d.right;
-            right = (al, aliased, ap (λ x. shown.Col (column_of n (Some x)) al) same_name ∙ (ap (λ x. shown.Col x al) made ∙ is)) }) },
-        refl) }
+          right = inr (record {
+            first = d.second;
+            second = second;
+            between = dotted.0.1;
+            parts = refl;
+            left = d.right;
+            right = (al, aliased, ap (λ x. shown.Col (column_of n (Some x)) al) same_name ∙ (ap (λ x. shown.Col x al) made ∙ is));
+          });
+        },
+        refl,
+      );
+    }
 
 to_item : (us : List Tok) (a : Item) → g.item us a → item_by_name us a
 to_item us a (inl h) =
     let all = h.1 in
     let d = all.right.1 in
-    record { first = all.first; second = all.second; between = h.0.0; parts = all.parts; left = all.left;
-      right = inl ((all.right.0.0, a), record { first = d.first; second = d.second; parts = d.parts; left = d.left; right = inl (all.right.0.1, d.right, h.2) }, refl) }
+    record {
+      first = all.first;
+      second = all.second;
+      between = h.0.0;
+      parts = all.parts;
+      left = all.left;
+      right = inl ((all.right.0.0, a), record { first = d.first; second = d.second; parts = d.parts; left = d.left; right = inl (all.right.0.1, d.right, h.2) }, refl);
+    }
 to_item us a (inr h) =
     let c = h.1.left in
     to_column us h.1.first h.1.second c.1.first c.1.second c.0.0 c.0.1 h.0.0 h.0.1 a h.1.parts c.1.parts c.1.left c.1.right c.2 h.1.right h.2
 
 from_dot : (us first second df ds : List Tok) (n : Name) (dot : Tok) (b a : Item) → us ≡ first ++ second → g.name first n → second ≡ df ++ ds → rule.mark k.Dot df dot → dot_rest n ds b → b ≡ a → g.item us a
 from_dot us first second df ds n dot b a parts left inner dotted (inl star) is =
-    inl ((n, star.0), record { first = first; second = second; parts = parts; left = left;
-      right = ((dot, star.0), record { first = df; second = ds; parts = inner; left = dotted; right = star.1 }, refl) }, star.2 ∙ is)
+    inl (
+      (n, star.0),
+      record {
+        first = first;
+        second = second;
+        parts = parts;
+        left = left;
+        right = ((dot, star.0), record { first = df; second = ds; parts = inner; left = dotted; right = star.1 }, refl);
+      },
+      star.2 ∙ is,
+    )
 from_dot us first second df ds n dot b a parts left inner dotted (inr e) is =
     let m = e.between in
     let al = e.right in
-    inr ((column_of n (Some m), al.0),
-      record { first = first ++ (df ++ e.first); second = e.second;
+    inr (
+      (column_of n (Some m), al.0),
+      record {
+        first = first ++ (df ++ e.first);
+        second = e.second;
         parts = parts ∙ (ap (λ x. first ++ x) (inner ∙ (ap (λ x. df ++ x) e.parts ∙ sym (append_assoc df e.first e.second))) ∙ sym (append_assoc first (df ++ e.first) e.second));
-        left = ((n, Some m), record { first = first; second = df ++ e.first; parts = refl; left = left;
-          right = ((dot, m), record { first = df; second = e.first; parts = refl; left = dotted; right = e.left }, refl) }, refl);
-        right = al.1 },
-      al.2 ∙ is)
+        left = (
+          (n, Some m),
+          record {
+            first = first;
+            second = df ++ e.first;
+            parts = refl;
+            left = left;
+            right = ((dot, m), record { first = df; second = e.first; parts = refl; left = dotted; right = e.left }, refl);
+          },
+          refl,
+        );
+        right = al.1;
+      },
+      al.2 ∙ is,
+    )
 
 from_rest : (us first second : List Tok) (n : Name) (a : Item) → us ≡ first ++ second → g.name first n → (rule.after k.Dot (dot_rest n) ⊕ column_rest (column_of n None)) second a → g.item us a
 from_rest us first second n a parts left (inl d) = from_dot us first second d.1.first d.1.second n d.0.0 d.0.1 a parts left d.1.parts d.1.left d.1.right d.2
 from_rest us first second n a parts left (inr c) =
-    inr ((column_of n None, c.0),
-      record { first = first; second = second; parts = parts;
+    inr (
+      (column_of n None, c.0),
+      record {
+        first = first;
+        second = second;
+        parts = parts;
         left = ((n, None), record { first = first; second = []; parts = sym (append-nil first); left = left; right = refl }, refl);
-        right = c.1 },
-      c.2)
+        right = c.1;
+      },
+      c.2,
+    )
 
 alias_of_item : Exact (rule.optional g.alias) read.optional_alias ends_column ends_item
 unfolding read.optional_alias same
@@ -146,8 +203,8 @@ pub key : Exact g.key read.key is_name ends_key
 unfolding read.key read.falls read.nulls_first same
 key = gives (λ p. record { column = p.0; way = way_of p.1.0 p.1.1 })
     (followed column (followed
-        (gives (λ way. unwrap_or (option_map (λ w. is k.Desc w.mark) way) false) (maybe is_way begins_ends (token is_way refl) refl refl (all_within begins_ends)))
-        (gives (λ end. option_map (λ e. is k.First e.mark) end) (maybe (is k.Nulls) ends_key (after k.Nulls refl (token is_end refl)) refl refl (all_within ends_key))) refl) refl)
+    (gives (λ way. unwrap_or (option_map (λ w. is k.Desc w.mark) way) false) (maybe is_way begins_ends (token is_way refl) refl refl (all_within begins_ends)))
+    (gives (λ end. option_map (λ e. is k.First e.mark) end) (maybe (is k.Nulls) ends_key (after k.Nulls refl (token is_end refl)) refl refl (all_within ends_key))) refl) refl)
 
 pub keys : Exact (rule.list_of k.Comma g.key) read.keys is_name ends_keys
 unfolding read.keys same

@@ -13,3 +13,4 @@ pub mod Loops
 pub mod Shrinking
 pub mod Steps
 pub mod ParseLemmas
+pub mod Wider

@@ -72,10 +72,10 @@ module _ (limits : Limits) where
   unfolding read.number_led same
   number_led = swapped (weaker (is k.Number) ends_term
       (by_test read.is_starred
-          (gives (λ p. number_term p.0 (Some p.1)) (followed (number limits.narrow) (after k.Star refl column) refl))
-          (weaker (is k.Number) ends_number (gives (λ n. number_term n None) (number limits.wide)) refl refl)
-          (λ us p w h e. starred us p w h)
-          alone)
+      (gives (λ p. number_term p.0 (Some p.1)) (followed (number limits.narrow) (after k.Star refl column) refl))
+      (weaker (is k.Number) ends_number (gives (λ n. number_term n None) (number limits.wide)) refl refl)
+      (λ us p w h e. starred us p w h)
+      alone)
       refl refl)
 
   column_led : Exact (g.column_led limits) (read.column_led limits) is_name ends_term
@@ -106,10 +106,10 @@ module _ (limits : Limits) where
   unfolding same
   sum_plainly = gives (λ p. sum_of p.0 p.1.0 p.1.1) (weaker (λ m. is_sign m || begins_term m) ends_operand
       (followed (maybe is_sign begins_term (token is_sign refl) refl refl (all_within begins_term))
-          (followed term
-              (repeated (g.signed_term limits) (read.signed_term limits) is_sign ends_term is_sign ends_operand signed_term refl refl refl refl Full-signed)
-              refl)
-          refl)
+      (followed term
+      (repeated (g.signed_term limits) (read.signed_term limits) is_sign ends_term is_sign ends_operand signed_term refl refl refl refl Full-signed)
+      refl)
+      refl)
       refl refl)
 
   pub sum : Exact (g.sum limits) (read.sum limits) (λ m. is_sign m || begins_term m) ends_operand
@@ -148,7 +148,7 @@ module _ (limits : Limits) where
     unfolding read.simple read.simple_number read.simple_column same
     simple = weaker begins_operand ends_term (either read.is_literal literal
         (either read.begins_number
-            (gives (λ p. sum_of p.0 (number_term p.1 None) []) (followed (maybe is_sign (is k.Number) (token is_sign refl) refl refl (all_within (is k.Number))) plain_number refl))
-            (gives (λ c. sum_of None (column_term c None) []) column)
-            refl refl)
+        (gives (λ p. sum_of p.0 (number_term p.1 None) []) (followed (maybe is_sign (is k.Number) (token is_sign refl) refl refl (all_within (is k.Number))) plain_number refl))
+        (gives (λ c. sum_of None (column_term c None) []) column)
+        refl refl)
         refl refl) refl refl

@@ -84,11 +84,11 @@ module _ (limits : Limits) where
   unfolding same
   NoCall-term = NoCall-either (g.number_led limits) (g.column_led limits) behind_term
       (NoCall-either _ _ behind_term
-          (NoCall-gives (rule.number limits.wide) (λ n. number_term n None) behind_term (NoCall-number limits.wide behind_term refl))
-          (NoCall-gives _ (λ p. number_term p.0 (Some p.1)) behind_term (NoCall-then (rule.number limits.narrow) (rule.after k.Star g.column) _ (is k.Star) (is k.Star) behind_term
-              (NoCall-number limits.narrow (is k.Star) refl) (weaker (is k.Star) behind_term (after k.Star refl column) refl refl) refl)))
+      (NoCall-gives (rule.number limits.wide) (λ n. number_term n None) behind_term (NoCall-number limits.wide behind_term refl))
+      (NoCall-gives _ (λ p. number_term p.0 (Some p.1)) behind_term (NoCall-then (rule.number limits.narrow) (rule.after k.Star g.column) _ (is k.Star) (is k.Star) behind_term
+      (NoCall-number limits.narrow (is k.Star) refl) (weaker (is k.Star) behind_term (after k.Star refl column) refl refl) refl)))
       (NoCall-gives _ (λ p. column_term p.0 p.1) behind_term (NoCall-then g.column (rule.optional (rule.after k.Star (rule.number limits.narrow))) _ behind_column behind_column behind_term
-          NoCall-column (maybe (is k.Star) behind_term (after k.Star refl (number limits.narrow)) refl refl refl) refl))
+      NoCall-column (maybe (is k.Star) behind_term (after k.Star refl (number limits.narrow)) refl refl refl) refl))
 
   terms : Exact (rule.many (g.signed_term limits)) (reading.many is_sign (read.signed_term limits)) behind_term begins_tail
   unfolding same
@@ -98,13 +98,13 @@ module _ (limits : Limits) where
   unfolding same
   NoCall-operand = NoCall-either g.literal (g.sum limits) begins_tail
       (NoCall-either _ _ begins_tail
-          (NoCall-gives (rule.mark k.Null) (λ n. o.Null n.at) begins_tail (NoCall-token (is k.Null) begins_tail refl))
-          (NoCall-gives (rule.mark k.Text) (λ x. o.Text x.at x.text) begins_tail (NoCall-token (is k.Text) begins_tail refl)))
+      (NoCall-gives (rule.mark k.Null) (λ n. o.Null n.at) begins_tail (NoCall-token (is k.Null) begins_tail refl))
+      (NoCall-gives (rule.mark k.Text) (λ x. o.Text x.at x.text) begins_tail (NoCall-token (is k.Text) begins_tail refl)))
       (NoCall-gives _ (λ p. sum_of p.0 p.1.0 p.1.1) begins_tail
-          (NoCall-maybe (rule.token is_sign) (g.term limits ⊗ rule.many (g.signed_term limits)) _ begins_term begins_term begins_tail
-              (NoCall-token is_sign begins_term refl)
-              (followed (term limits) terms refl) refl
-              (NoCall-then (g.term limits) (rule.many (g.signed_term limits)) _ behind_term behind_term begins_tail NoCall-term terms refl)))
+      (NoCall-maybe (rule.token is_sign) (g.term limits ⊗ rule.many (g.signed_term limits)) _ begins_term begins_term begins_tail
+      (NoCall-token is_sign begins_term refl)
+      (followed (term limits) terms refl) refl
+      (NoCall-then (g.term limits) (rule.many (g.signed_term limits)) _ behind_term behind_term begins_tail NoCall-term terms refl)))
 
   -- ---- predicates with a subject, told by what stands behind it
 
@@ -134,12 +134,24 @@ module _ (limits : Limits) where
       inr (record { first = h.1.first; second = h.1.second; between = h.0.0; parts = h.1.parts; left = h.1.left; right = inl (h.0.1, h.1.right, h.2) })
   to_rest us a (inr (inl h)) =
       let r = h.1.right in
-      inr (record { first = h.1.first; second = h.1.second; between = h.0.0; parts = h.1.parts; left = h.1.left;
-        right = inr (inr (record { first = r.first; second = r.second; between = h.0.1.0; parts = r.parts; left = r.left; right = inl (h.0.1.1, r.right, h.2) })) })
+      inr (record {
+        first = h.1.first;
+        second = h.1.second;
+        between = h.0.0;
+        parts = h.1.parts;
+        left = h.1.left;
+        right = inr (inr (record { first = r.first; second = r.second; between = h.0.1.0; parts = r.parts; left = r.left; right = inl (h.0.1.1, r.right, h.2) }));
+      })
   to_rest us a (inr (inr (inl h))) =
       let r = h.1.right in
-      inr (record { first = h.1.first; second = h.1.second; between = h.0.0; parts = h.1.parts; left = h.1.left;
-        right = inr (inr (record { first = r.first; second = r.second; between = h.0.1.0; parts = r.parts; left = r.left; right = inr (h.0.1.1, r.right, h.2) })) })
+      inr (record {
+        first = h.1.first;
+        second = h.1.second;
+        between = h.0.0;
+        parts = h.1.parts;
+        left = h.1.left;
+        right = inr (inr (record { first = r.first; second = r.second; between = h.0.1.0; parts = r.parts; left = r.left; right = inr (h.0.1.1, r.right, h.2) }));
+      })
   to_rest us a (inr (inr (inr (inl h)))) =
       inr (record { first = h.1.first; second = h.1.second; between = h.0.0; parts = h.1.parts; left = h.1.left; right = inr (inl (h.0.1, h.1.right, h.2)) })
   to_rest us a (inr (inr (inr (inr h)))) = inl h
@@ -218,6 +230,6 @@ module _ (limits : Limits) where
     unfolding read.predicate same
     predicate = along to_rest from_rest (weaker begins_operand ends_operand
         (by_test read.begins_call call (chained (operand limits) behind_subject refl)
-            (λ us a w h e. called us a w h)
-            uncalled)
+        (λ us a w h e. called us a w h)
+        uncalled)
         refl refl)

@@ -62,7 +62,7 @@ module _ (limits : Limits) (nested : (n : ℕ) → limits.narrow n ≡ true → 
   statement = gives (λ p. statement_of p.1.0 p.1.1.0 p.1.1.1.0 p.1.1.1.1)
       (after k.Select refl (followed (maybe (is k.All) (λ m. is k.Star m || is_name m) (token (is k.All) refl) refl refl refl)
       (followed select_list (followed (after k.From refl (gives (λ p. p.0 ∷ p.1) (followed source
-          (repeated (g.join limits d) (read.join limits d) read.begins_join ends_join read.begins_join begins_where join refl refl refl refl Full-join) refl)))
+      (repeated (g.join limits d) (read.join limits d) read.begins_join ends_join read.begins_join begins_where join refl refl refl refl Full-join) refl)))
       (followed where_condition order refl) refl) refl) refl))
 
   -- ---- scripts
@@ -113,9 +113,9 @@ module _ (limits : Limits) (nested : (n : ℕ) → limits.narrow n ≡ true → 
       let begun = not_done (q.second ++ w) (statement.begins q.second l.3.0.1 w q.right ends) in
       let others = again_rest n more w l.1 vs last refl l.4 r (omega arith) in
       let shape : ts ≡ l.3.0.0 ∷ (q.second ++ w) =
-          parts ∙ (ap (λ z. z ++ vs) (l.2 ∙ ap (λ z. z ++ l.1) (q.parts ∙ ap (λ z. z ++ q.second) q.left.0)) ∙ ap (λ z. l.3.0.0 ∷ z) (append_assoc q.second l.1 vs)) in
+      parts ∙ (ap (λ z. z ++ vs) (l.2 ∙ ap (λ z. z ++ l.1) (q.parts ∙ ap (λ z. z ++ q.second) q.left.0)) ∙ ap (λ z. l.3.0.0 ∷ z) (append_assoc q.second l.1 vs)) in
       rw shape (goes_on (read.statement limits d >>= (λ s. (λ ys. s ∷ ys) <$> read.statements limits d n)) l.3.0.0 (q.second ++ w) q.left.1 begun
-          ∙ rw (statement.again q.second l.3.0.1 w q.right ends, others) (ap (λ z. Ok (z ∷ more, [])) l.3.2))
+      ∙ rw (statement.again q.second l.3.0.1 w q.right ends, others) (ap (λ z. Ok (z ∷ more, [])) l.3.2))
 
   data Went (more : Parser (List Statement)) (ts : List Tok) (xs : List Statement) (rest : List Tok) : Type 0 where
     stopped : [] ≡ xs → ts ≡ rest → Went more ts xs rest
@@ -125,12 +125,12 @@ module _ (limits : Limits) (nested : (n : ℕ) → limits.narrow n ≡ true → 
   how : (more : Parser (List Statement)) (ts : List Tok) (xs : List Statement) (rest : List Tok) → read.after_semicolon limits more ts ≡ Ok (xs, rest) → Went more ts xs rest
   how more ts xs rest e = ⊎_elim
       (λ h. let o = and_then_ok (reading.mark k.Semicolon ts) (λ _. λ us. cond (done us) (reading.pure [] us) (more us)) (xs, rest) h.1 in
-          let x = semicolon.takes ts o.0 o.1 o.2 in
-          let shape : ts ≡ o.0 ∷ o.1 = x.2 ∙ ap (λ z. z ++ o.1) x.1.0 in
-          ⊎_elim
-              (λ i. let pair = Ok-value i.1 in ended o.0 x.1.1 (shape ∙ ap (λ z. o.0 ∷ z) (ap (λ z. z.1) pair)) (ap (λ z. z.0) pair))
-              (λ i. went o.0 o.1 x.1.1 shape i.1)
-              (if_ok (done o.1) (reading.pure [] o.1) (more o.1) (xs, rest) o.3))
+      let x = semicolon.takes ts o.0 o.1 o.2 in
+      let shape : ts ≡ o.0 ∷ o.1 = x.2 ∙ ap (λ z. z ++ o.1) x.1.0 in
+      ⊎_elim
+      (λ i. let pair = Ok-value i.1 in ended o.0 x.1.1 (shape ∙ ap (λ z. o.0 ∷ z) (ap (λ z. z.1) pair)) (ap (λ z. z.0) pair))
+      (λ i. went o.0 o.1 x.1.1 shape i.1)
+      (if_ok (done o.1) (reading.pure [] o.1) (more o.1) (xs, rest) o.3))
       (λ h. let pair = Ok-value h.1 in stopped (ap (λ z. z.0) pair) (ap (λ z. z.1) pair))
       (if_ok (is k.Semicolon (next ts)) _ (reading.pure [] ts) (xs, rest) e)
 
@@ -166,15 +166,19 @@ module _ (limits : Limits) (nested : (n : ℕ) → limits.narrow n ≡ true → 
       let left : i.1 ≡ rest = ap (λ z. z.1) pair in
       let x = statement.takes w o.0 o.1 o.2 in
       let r = others o.1 i.0 i.1 i.2 in
-      let back = r.1 in
-      (t ∷ (x.0 ++ r.0),
-       subst (λ ys. Rest (t ∷ (x.0 ++ r.0)) ys) made (record {
-         us = t ∷ (x.0 ++ back.us); vs = back.vs; last = back.last;
-         parts = ap (λ z. t ∷ z) (ap (λ z. x.0 ++ z) back.parts ∙ sym (append_assoc x.0 back.us back.vs));
-         left = (t ∷ x.0, back.us, refl, ((t, o.0), record { first = t ∷ []; second = x.0; parts = refl; left = (refl, e); right = x.1 }, refl), back.left);
-         right = back.right }),
-       f ∙ ap (λ z. t ∷ z) (x.2 ∙ (ap (λ z. x.0 ++ z) (r.2 ∙ ap (λ z. r.0 ++ z) left) ∙ sym (append_assoc x.0 r.0 rest))),
-       subst (λ ys. length ys ≤ suc n) made (let few : length i.0 ≤ n = r.3 in omega arith))
+      let back = r.1 in (
+        t ∷ (x.0 ++ r.0),
+        subst (λ ys. Rest (t ∷ (x.0 ++ r.0)) ys) made (record {
+          us = t ∷ (x.0 ++ back.us);
+          vs = back.vs;
+          last = back.last;
+          parts = ap (λ z. t ∷ z) (ap (λ z. x.0 ++ z) back.parts ∙ sym (append_assoc x.0 back.us back.vs));
+          left = (t ∷ x.0, back.us, refl, ((t, o.0), record { first = t ∷ []; second = x.0; parts = refl; left = (refl, e); right = x.1 }, refl), back.left);
+          right = back.right;
+        }),
+        f ∙ ap (λ z. t ∷ z) (x.2 ∙ (ap (λ z. x.0 ++ z) (r.2 ∙ ap (λ z. r.0 ++ z) left) ∙ sym (append_assoc x.0 r.0 rest))),
+        subst (λ ys. length ys ≤ suc n) made (let few : length i.0 ≤ n = r.3 in omega arith),
+      )
 
   take_rest : (n : ℕ) (ts : List Tok) (xs : List Statement) (rest : List Tok) → read.statements limits d n ts ≡ Ok (xs, rest) → Took n ts xs rest
   unfolding read.statements
@@ -186,21 +190,25 @@ module _ (limits : Limits) (nested : (n : ℕ) → limits.narrow n ≡ true → 
   nil_from_done (t ∷ ts) e = cc
 
   assembled : (ts first mid us rest : List Tok) (s : Statement) (xs : List Statement) → g.statement limits d first s → Rest us xs → ts ≡ first ++ mid → mid ≡ us ++ rest → rest ≡ [] → g.script limits d ts (record { statements = s ∷ xs })
-  assembled ts first mid us rest s xs h r parts behind none =
-      (((s, xs), r.last),
-       record {
-         first = first ++ r.us; second = r.vs;
-         parts = parts ∙ (ap (λ z. first ++ z) (behind ∙ (ap (λ z. us ++ z) none ∙ (append-nil us ∙ r.parts))) ∙ sym (append_assoc first r.us r.vs));
-         left = record { first = first; second = r.us; parts = refl; left = h; right = r.left };
-         right = r.right },
-       refl)
+  assembled ts first mid us rest s xs h r parts behind none = (
+    ((s, xs), r.last),
+    record {
+      first = first ++ r.us;
+      second = r.vs;
+      parts = parts ∙ (ap (λ z. first ++ z) (behind ∙ (ap (λ z. us ++ z) none ∙ (append-nil us ∙ r.parts))) ∙ sym (append_assoc first r.us r.vs));
+      left = record { first = first; second = r.us; parts = refl; left = h; right = r.left };
+      right = r.right;
+    },
+    refl,
+  )
 
   finished : (n : ℕ) (ts mid more : List Tok) (s : Statement) (xs : List Statement) (tree : Script) (rest : List Tok) → (us : List Tok) × g.statement limits d us s × (ts ≡ us ++ mid) → Took n mid xs more
       → cond {A = Outcome Script} (done more) (Ok (record { statements = s ∷ xs }, more)) (Err (stop.Syntax, more)) ≡ Ok (tree, rest) → g.script limits d ts tree × (length tree.statements ≤ suc n)
   finished n ts mid more s xs tree rest x r e = ⊎_elim
-      (λ h. let made = ap (λ z. z.0) (Ok-value h.1) in
-          (subst (λ t. g.script limits d ts t) made (assembled ts x.0 mid r.0 more s xs x.1 r.1 x.2 r.2 (nil_from_done more h.0)),
-           subst (λ (t : Script). length t.statements ≤ suc n) made (let few : length xs ≤ n = r.3 in omega arith)))
+      (λ h. let made = ap (λ z. z.0) (Ok-value h.1) in (
+        subst (λ t. g.script limits d ts t) made (assembled ts x.0 mid r.0 more s xs x.1 r.1 x.2 r.2 (nil_from_done more h.0)),
+        subst (λ (t : Script). length t.statements ≤ suc n) made (let few : length xs ≤ n = r.3 in omega arith),
+      ))
       (λ h. absurd (Err-Ok h.1))
       (if_ok (done more) (Ok (record { statements = s ∷ xs }, more)) (Err (stop.Syntax, more)) (tree, rest) e)
 

@@ -47,3 +47,7 @@ parsed z = answer_of (length z) (read.script shipped 64 63 (toks 0 z))
 abbrev pub Answers : Text → Result Script ParseFault → Type 0
 Answers z (Ok s) = parsed z ≡ Ok s
 Answers z (Err f) = f ≢ fault.Memory → parsed z ≡ Err f
+
+-- a list of tokens has at most one tree, whatever the limits
+abbrev pub OneTree : Type 0
+OneTree = (ts : List Tok) (x y : Script) → Spells ts x → Spells ts y → x ≡ y

@@ -106,7 +106,10 @@ pub enum Tree {
         negated: bool,
         subject: Operand,
     },
-    Call { function: Name, args: List<Operand> },
+    Call {
+        function: Name,
+        args: List<Operand>,
+    },
     Not(Boxed<Tree>),
     All(List<Tree>),
     Any(List<Tree>),

@@ -21,7 +21,7 @@ denied-returns-then-depth-eq0 t c _ = denied_none shipped c.args.depth c.args.to
 pub denied-returns-in_err-expect : goal.denied-returns-in_err-expect
 denied-returns-in_err-expect t c =
     hands_on _ _ _ _ c.from_residual.ensures.1 (λ other.
-        denied_more shipped c.args.depth c.args.tokens.now (omega arith) ∙ (after_none k.Not _ c.args.tokens.now c.in_err-expect.ensures.0 ∙ rw (c.in_err-expect.ensures.1, c.in_err-expect.ensures.2) refl))
+    denied_more shipped c.args.depth c.args.tokens.now (omega arith) ∙ (after_none k.Not _ c.args.tokens.now c.in_err-expect.ensures.0 ∙ rw (c.in_err-expect.ensures.1, c.in_err-expect.ensures.2) refl))
 
 pub denied-returns : goal.denied-returns
 denied-returns t c =
@@ -34,20 +34,20 @@ nested-returns-then-depth-eq0 t c _ = nested_none shipped c.args.depth c.args.to
 pub nested-returns-in_err-expect : goal.nested-returns-in_err-expect
 nested-returns-in_err-expect t c =
     hands_on _ _ _ _ c.from_residual.ensures.1 (λ other.
-        nested_more shipped c.args.depth c.args.tokens.now (omega arith) ∙ (after_none k.Open _ c.args.tokens.now c.in_err-expect.ensures.0 ∙ rw (c.in_err-expect.ensures.1, c.in_err-expect.ensures.2) refl))
+    nested_more shipped c.args.depth c.args.tokens.now (omega arith) ∙ (after_none k.Open _ c.args.tokens.now c.in_err-expect.ensures.0 ∙ rw (c.in_err-expect.ensures.1, c.in_err-expect.ensures.2) refl))
 
 pub nested-returns-in_err-inner : goal.nested-returns-in_err-inner
 nested-returns-in_err-inner t c =
     hands_on _ _ _ _ c.from_residual-in_err-inner.ensures.1 (λ other.
-        nested_more shipped c.args.depth c.args.tokens.now (omega arith)
-        ∙ enclosed_fails (read.condition shipped (c.args.depth - 1)) c.args.tokens.now _ _ c.in_ok-expect.ensures.0 (rw c.in_ok-expect.ensures.1 at (c.in_err-inner.ensures other)))
+    nested_more shipped c.args.depth c.args.tokens.now (omega arith)
+    ∙ enclosed_fails (read.condition shipped (c.args.depth - 1)) c.args.tokens.now _ _ c.in_ok-expect.ensures.0 (rw c.in_ok-expect.ensures.1 at (c.in_err-inner.ensures other)))
 
 pub nested-returns-in_err-expect-2 : goal.nested-returns-in_err-expect-2
 nested-returns-in_err-expect-2 t c =
     hands_on _ _ _ _ c.from_residual-in_err-expect-2.ensures.1 (λ other.
-        nested_more shipped c.args.depth c.args.tokens.now (omega arith)
-        ∙ (enclosed_unclosed (read.condition shipped (c.args.depth - 1)) c.args.tokens.now _ _ c.in_ok-expect.ensures.0 (rw c.in_ok-expect.ensures.1 at c.in_ok-inner.ensures) c.in_err-expect-2.ensures.0
-        ∙ rw (c.in_err-expect-2.ensures.1, c.in_err-expect-2.ensures.2) refl))
+    nested_more shipped c.args.depth c.args.tokens.now (omega arith)
+    ∙ (enclosed_unclosed (read.condition shipped (c.args.depth - 1)) c.args.tokens.now _ _ c.in_ok-expect.ensures.0 (rw c.in_ok-expect.ensures.1 at c.in_ok-inner.ensures) c.in_err-expect-2.ensures.0
+    ∙ rw (c.in_err-expect-2.ensures.1, c.in_err-expect-2.ensures.2) refl))
 
 pub nested-returns : goal.nested-returns
 nested-returns t c =
@@ -127,7 +127,7 @@ pub more_negations-returns-in_err-negation : goal.more_negations-returns-in_err-
 more_negations-returns-in_err-negation t c =
     let begins : is k.And (next c.more.tokens) ≡ true = search rules in
     so_far_error (is k.And) (after k.And (read.neg shipped c.args.depth)) shrinking.no_and (shrinking.neg c.args.depth) _ _ c.more.found c.more.tokens _ _ _ c.from_residual.ensures.1 c.more.invariant begins
-        (λ other. after_is k.And (read.neg shipped c.args.depth) c.more.tokens begins ∙ rw c.advance.ensures at (c.in_err-negation.ensures other))
+    (λ other. after_is k.And (read.neg shipped c.args.depth) c.more.tokens begins ∙ rw c.advance.ensures at (c.in_err-negation.ensures other))
 
 pub more_negations-more-smaller : goal.more_negations-more-smaller
 more_negations-more-smaller t c =
@@ -138,7 +138,7 @@ pub more_negations-more-preserved : goal.more_negations-more-preserved
 more_negations-more-preserved t c =
     let begins : is k.And (next c.more.tokens) ≡ true = search rules in
     so_far_more (is k.And) (after k.And (read.neg shipped c.args.depth)) shrinking.no_and (shrinking.neg c.args.depth) _ _ c.more.found c.more.tokens _ _ _ c.more.invariant begins
-        (after_is k.And (read.neg shipped c.args.depth) c.more.tokens begins ∙ rw c.advance.ensures at c.in_ok-negation.ensures) c.in_ok-push.ensures.ok
+    (after_is k.And (read.neg shipped c.args.depth) c.more.tokens begins ∙ rw c.advance.ensures at c.in_ok-negation.ensures) c.in_ok-push.ensures.ok
 
 pub more_negations-returns : goal.more_negations-returns
 more_negations-returns t c =
@@ -151,7 +151,7 @@ pub more_conjunctions-returns-in_err-conjunction : goal.more_conjunctions-return
 more_conjunctions-returns-in_err-conjunction t c =
     let begins : is k.Or (next c.more.tokens) ≡ true = search rules in
     so_far_error (is k.Or) (after k.Or (read.conjunction_at shipped c.args.depth)) shrinking.no_or (shrinking.conjunction c.args.depth) _ _ c.more.found c.more.tokens _ _ _ c.from_residual.ensures.1 c.more.invariant begins
-        (λ other. after_is k.Or (read.conjunction_at shipped c.args.depth) c.more.tokens begins ∙ rw c.advance.ensures at (c.in_err-conjunction.ensures other))
+    (λ other. after_is k.Or (read.conjunction_at shipped c.args.depth) c.more.tokens begins ∙ rw c.advance.ensures at (c.in_err-conjunction.ensures other))
 
 pub more_conjunctions-more-smaller : goal.more_conjunctions-more-smaller
 more_conjunctions-more-smaller t c =
@@ -162,7 +162,7 @@ pub more_conjunctions-more-preserved : goal.more_conjunctions-more-preserved
 more_conjunctions-more-preserved t c =
     let begins : is k.Or (next c.more.tokens) ≡ true = search rules in
     so_far_more (is k.Or) (after k.Or (read.conjunction_at shipped c.args.depth)) shrinking.no_or (shrinking.conjunction c.args.depth) _ _ c.more.found c.more.tokens _ _ _ c.more.invariant begins
-        (after_is k.Or (read.conjunction_at shipped c.args.depth) c.more.tokens begins ∙ rw c.advance.ensures at c.in_ok-conjunction.ensures) c.in_ok-push.ensures.ok
+    (after_is k.Or (read.conjunction_at shipped c.args.depth) c.more.tokens begins ∙ rw c.advance.ensures at c.in_ok-conjunction.ensures) c.in_ok-push.ensures.ok
 
 pub more_conjunctions-returns : goal.more_conjunctions-returns
 more_conjunctions-returns t c =

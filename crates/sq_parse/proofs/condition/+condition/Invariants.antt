@@ -45,4 +45,3 @@ invariant-more_conjunctions-more l = ReadSoFar (is k.Or) (after k.Or (read.conju
 
 abbrev pub decreases-more_conjunctions-more : goal.decreases-more_conjunctions-more
 decreases-more_conjunctions-more l = length l.tokens
-

@@ -14,9 +14,9 @@ unfolding read.keys
 returns-in_err-key-2 c =
     let begins : is k.Comma (next c.more.tokens) ≡ true = search rules in
     list_fails k.Comma read.key _ _ _ _ _ _ _ c.in_ok-key.ensures c.from_residual-in_err-key-2.ensures.1
-        (so_far_error (is k.Comma) (after k.Comma read.key) shrinking.no_comma shrinking.key _ _ c.more.found c.more.tokens _ _ _
-            c.from_residual-in_err-key-2.ensures.1 c.more.invariant begins
-            (λ other. after_is k.Comma read.key c.more.tokens begins ∙ rw c.advance.ensures at (c.in_err-key-2.ensures other)))
+    (so_far_error (is k.Comma) (after k.Comma read.key) shrinking.no_comma shrinking.key _ _ c.more.found c.more.tokens _ _ _
+    c.from_residual-in_err-key-2.ensures.1 c.more.invariant begins
+    (λ other. after_is k.Comma read.key c.more.tokens begins ∙ rw c.advance.ensures at (c.in_err-key-2.ensures other)))
 
 pub more-smaller : goal.more-smaller
 more-smaller c =
@@ -27,11 +27,11 @@ pub more-preserved : goal.more-preserved
 more-preserved c =
     let begins : is k.Comma (next c.more.tokens) ≡ true = search rules in
     so_far_more (is k.Comma) (after k.Comma read.key) shrinking.no_comma shrinking.key _ _ c.more.found c.more.tokens _ _ _ c.more.invariant begins
-        (after_is k.Comma read.key c.more.tokens begins ∙ rw c.advance.ensures at c.in_ok-key-2.ensures) c.in_ok-push-2.ensures.ok
+    (after_is k.Comma read.key c.more.tokens begins ∙ rw c.advance.ensures at c.in_ok-key-2.ensures) c.in_ok-push-2.ensures.ok
 
 pub returns : goal.returns
 unfolding read.keys
 returns c =
     let ends : is k.Comma (next c.more.tokens) ≡ false = search rules in
     list_done k.Comma read.key _ _ _ _ _ _ c.in_ok-key.ensures (rw c.new-found.ensures at c.in_ok-push.ensures.ok)
-        (so_far_all (is k.Comma) (after k.Comma read.key) shrinking.no_comma shrinking.key _ _ _ _ c.more.invariant ends)
+    (so_far_all (is k.Comma) (after k.Comma read.key) shrinking.no_comma shrinking.key _ _ _ _ c.more.invariant ends)

@@ -26,14 +26,14 @@ returns-in_err-statement c =
     let begins : is k.Semicolon (next c.more.tokens) ≡ true = search rules in
     let goes : done (behind c.more.tokens) ≡ false = rw c.advance.ensures at (sym c.is_done.ensures ∙ c.if-is_done.false) in
     more_error _ _ _ _ _ _ _ c.from_residual.ensures.1 c.more.invariant (λ other.
-        statements_more shipped 64 c.more.left c.more.tokens (omega arith) begins goes ∙ rw (rw c.advance.ensures at (c.in_err-statement.ensures other)) refl)
+    statements_more shipped 64 c.more.left c.more.tokens (omega arith) begins goes ∙ rw (rw c.advance.ensures at (c.in_err-statement.ensures other)) refl)
 
 pub more-preserved : goal.more-preserved
 more-preserved c =
     let begins : is k.Semicolon (next c.more.tokens) ≡ true = search rules in
     let goes : done (behind c.more.tokens) ≡ false = rw c.advance.ensures at (sym c.is_done.ensures ∙ c.if-is_done.false) in
     more_step _ _ _ _ _ _ _ c.more.invariant
-        (statements_more shipped 64 c.more.left c.more.tokens (omega arith) begins goes ∙ rw (rw c.advance.ensures at c.in_ok-statement.ensures) refl) c.in_ok-push.ensures.ok
+    (statements_more shipped 64 c.more.left c.more.tokens (omega arith) begins goes ∙ rw (rw c.advance.ensures at c.in_ok-statement.ensures) refl) c.in_ok-push.ensures.ok
 
 pub returns : goal.returns
 returns c =
