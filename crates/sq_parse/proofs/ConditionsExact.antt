@@ -1,11 +1,11 @@
 -- The readers of conditions are exact for their rules, however deep.
-use Rattle.std.proofs.Common.{◌≡◌, Bool, true, false, not, ◌&&◌, ◌||◌, ℕ, zero, suc, List, [], ◌∷◌, Option, refl}
+use Rattle.std.proofs.Common.{◌≡◌, Bool, true, not, ◌||◌, ℕ, zero, suc, List, refl}
 use Rattle.sq_parse.specs.declared.mark.Mark.{Mark}
 use Rattle.sq_parse.specs.declared.mark.Mark.TheVariants as k
 use Rattle.sq_parse.specs.declared.stop.Stop.TheVariants as stop
 use Rattle.sq_parse.specs.declared.tree.Tree.{Tree}
 use Rattle.sq_parse.specs.declared.tree.Tree.TheVariants as t
-use Rattle.sq_parse.specs.Mark.{is, same, is_name, is_sign, is_truth}
+use Rattle.sq_parse.specs.Mark.{is, same, is_sign, is_truth}
 use Rattle.sq_parse.specs.Tok.{Tok}
 use Rattle.sq_parse.specs.Tree.{tested, all_of, any_of}
 use Rattle.sq_parse.specs.Rules as rule
@@ -15,7 +15,6 @@ use Rattle.sq_parse.specs.Reading.{Parser, ◌<$>◌, ◌<+>◌}
 use Rattle.sq_parse.specs.Grammar as g
 use Rattle.sq_parse.specs.Grammar.{Limits}
 use Rattle.sq_parse.specs.Reader as read
-use Rattle.sq_parse.proofs.Marks.{all_within}
 use Rattle.sq_parse.proofs.Exact.{Exact, token, weaker, gives, followed, either, maybe, after, closed, listed, never}
 use Rattle.sq_parse.proofs.OperandsExact.{anything, ends_operand, begins_operand}
 use Rattle.sq_parse.proofs.PredicatesExact.{negated, predicate}

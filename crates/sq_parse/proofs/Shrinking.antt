@@ -1,5 +1,5 @@
 -- What is read in a loop takes a token at least, and doesn't begin at the end.
-use Rattle.std.proofs.Common.{◌≡◌, Bool, true, false, ℕ, refl, arith}
+use Rattle.std.proofs.Common.{◌≡◌, true, false, ℕ, refl, arith}
 use Rattle.std.proofs.lemmas.Bool.Decides.{nat_tests}
 use Rattle.sq_parse.specs.declared.mark.Mark.TheVariants as k
 use Rattle.sq_parse.specs.Mark.{is, same, is_sign}

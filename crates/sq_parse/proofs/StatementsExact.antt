@@ -1,9 +1,8 @@
 -- The reader of statements is exact for its rule, and the reader of scripts for scripts of few statements.
-use Rattle.std.proofs.Common.{◌≡◌, Bool, true, false, not, ◌&&◌, ◌||◌, ⊎_elim, ℕ, zero, suc, ◌+◌, ◌≤◌, List, [], ◌∷◌, ◌++◌, length, Option, Some, None, unwrap_or, Ok, Err, refl, ap, sym, subst, cond, ◌∙◌, append_assoc, append-nil, arith}
+use Rattle.std.proofs.Common.{◌≡◌, Bool, true, false, ◌||◌, ⊎_elim, ℕ, zero, suc, ◌≤◌, List, [], ◌∷◌, ◌++◌, length, Option, Some, None, unwrap_or, Ok, Err, refl, ap, sym, subst, cond, ◌∙◌, append_assoc, append-nil, arith}
 use Rattle.sq_parse.specs.declared.mark.Mark.{Mark}
 use Rattle.sq_parse.specs.declared.mark.Mark.TheVariants as k
 use Rattle.sq_parse.specs.declared.stop.Stop.TheVariants as stop
-use Rattle.sq_parse.specs.declared.tree.Source.{Source}
 use Rattle.sq_parse.specs.declared.tree.Statement.{Statement}
 use Rattle.sq_parse.specs.declared.tree.Script.{Script}
 use Rattle.sq_parse.specs.Mark.{is, same, is_name}
@@ -16,11 +15,10 @@ use Rattle.sq_parse.specs.Reading.{Parser, Outcome, and_then, ◌>>=◌, ◌<$>�
 use Rattle.sq_parse.specs.Grammar as g
 use Rattle.sq_parse.specs.Grammar.{Limits}
 use Rattle.sq_parse.specs.Reader as read
-use Rattle.sq_parse.proofs.Marks.{all_within, within, within_at, apart, apart_at}
-use Rattle.sq_parse.proofs.Exact.{Exact, token, weaker, gives, followed, either, maybe, repeated, after, listed, Full, Full-either, Full-after, Full-gives, Full-right, Full-left, if_ok, and_then_ok, Ok-value, Err-Ok}
+use Rattle.sq_parse.proofs.Exact.{Exact, token, weaker, gives, followed, either, maybe, repeated, after, Full, Full-either, Full-after, Full-gives, Full-right, Full-left, if_ok, and_then_ok, Ok-value, Err-Ok}
 use Rattle.sq_parse.proofs.OperandsExact.{anything}
-use Rattle.sq_parse.proofs.ItemsExact.{ends_source, ends_list, ends_keys, source, select_list, keys}
-use Rattle.sq_parse.proofs.ConditionsExact.{begins_condition, ends_condition, condition}
+use Rattle.sq_parse.proofs.ItemsExact.{source, select_list, keys}
+use Rattle.sq_parse.proofs.ConditionsExact.{ends_condition, condition}
 
 abbrev ends_join : Mark → Bool
 ends_join m = is k.Comma m || is k.Cross m || is k.Inner m || is k.Join m || is k.Where m || is k.Order m || is k.Semicolon m || is k.End m

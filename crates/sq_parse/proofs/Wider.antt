@@ -1,8 +1,7 @@
 -- What is spelled within a depth is spelled within each greater one, so there is one tree whatever the depth.
-use Rattle.std.proofs.Common.{◌≡◌, ◌⊎◌, inl, inr, ℕ, zero, suc, ◌+◌, ◌≤◌, Bool, true, List, [], ◌∷◌, ◌++◌, length, Option, Some, None, refl, arith}
+use Rattle.std.proofs.Common.{inl, inr, ℕ, zero, suc, ◌+◌, ◌≤◌, List, [], ◌∷◌, length, Some, None, refl, arith}
 use Rattle.sq_parse.specs.declared.mark.Mark.{Mark}
 use Rattle.sq_parse.specs.declared.mark.Mark.TheVariants as k
-use Rattle.sq_parse.specs.declared.tree.Script.{Script}
 use Rattle.sq_parse.specs.declared.tree.Tree.{Tree}
 use Rattle.sq_parse.specs.declared.tree.Tree.TheVariants as tree
 use Rattle.sq_parse.specs.Tok.{Tok}
@@ -11,7 +10,7 @@ use Rattle.sq_parse.specs.Rules as rule
 use Rattle.sq_parse.specs.Rules.{Then, ◌⊗◌, ◌⊕◌, ◌⊛◌}
 use Rattle.sq_parse.specs.Grammar as g
 use Rattle.sq_parse.specs.Grammar.{Limits}
-use Rattle.sq_parse.specs.Parse.{Spells, unlimited, OneTree}
+use Rattle.sq_parse.specs.Parse.{unlimited, OneTree}
 use Rattle.sq_parse.proofs.StatementsExact.{one_script}
 
 abbrev Sub : {A : Type 0} → (List Tok → A → Type 0) → (List Tok → A → Type 0) → Type 0
@@ -57,7 +56,7 @@ module _ (limits : Limits) where
   negation : (m m' l l' : List Tok → Tree → Type 0) → Sub m m' → Sub l l' → Sub (g.negation limits m l) (g.negation limits m' l')
   negation m m' l l' y x = either _ _ _ _ (gives tree.Not _ _ (after k.Not m m' y))
       (gives (λ p. tested p.0 p.1) _ _ (then (g.primary limits l) (g.primary limits l') _ _
-          (either _ _ (g.predicate limits) (g.predicate limits) (enclosed l l' x) (same_rule (g.predicate limits))) (same_rule _)))
+      (either _ _ (g.predicate limits) (g.predicate limits) (enclosed l l' x) (same_rule (g.predicate limits))) (same_rule _)))
 
   neg : (d e : ℕ) → d ≤ e → Sub (g.neg limits d) (g.neg limits e)
   neg zero zero h = same_rule (g.neg limits zero)
@@ -74,7 +73,7 @@ module _ (limits : Limits) where
     join : Sub (g.join limits d) (g.join limits e)
     join = either _ _ _ _ (same_rule (rule.after k.Comma g.source)) (either _ _ _ _ (same_rule (rule.after k.Cross (rule.after k.Join g.source)))
         (gives (λ p. joined_on p.1.0 p.1.1) _ _ (then (rule.optional (rule.mark k.Inner)) (rule.optional (rule.mark k.Inner)) _ _ (same_rule (rule.optional (rule.mark k.Inner)))
-            (then (rule.after k.Join g.source) (rule.after k.Join g.source) _ _ (same_rule (rule.after k.Join g.source)) (after k.On _ _ condition)))))
+        (then (rule.after k.Join g.source) (rule.after k.Join g.source) _ _ (same_rule (rule.after k.Join g.source)) (after k.On _ _ condition)))))
 
     statement : Sub (g.statement limits d) (g.statement limits e)
     statement = gives (λ p. statement_of p.1.0 p.1.1.0 p.1.1.1.0 p.1.1.1.1) _ _ (after k.Select _ _

@@ -1,5 +1,5 @@
 -- What the parser's functions read, rule by rule.
-use Rattle.std.specs.Prelude.{ℕ, ℤ, pos, nat_le, zero, suc, Bool, ◌&&◌, ◌||◌, if◌then◌else◌, List, [], ◌∷◌, Option, Some, None, is_some, option_map, unwrap_or, true, false, Ok, Err}
+use Rattle.std.specs.Prelude.{ℕ, ℤ, pos, nat_le, zero, suc, Bool, ◌&&◌, ◌||◌, if◌then◌else◌, List, [], ◌∷◌, Option, Some, None, is_some, option_map, unwrap_or, false, Ok, Err}
 use Rattle.sq_value.specs.declared.value.Truth.{Truth}
 use Rattle.sq_parse.specs.declared.mark.Mark.{Mark}
 use Rattle.sq_parse.specs.declared.mark.Mark.TheVariants as k
@@ -20,9 +20,9 @@ use Rattle.sq_parse.specs.declared.tree.Operand.TheVariants as o
 use Rattle.sq_parse.specs.declared.tree.Tree.{Tree}
 use Rattle.sq_parse.specs.declared.tree.Tree.TheVariants as t
 use Rattle.sq_parse.specs.Mark.{is, is_name, is_sign, is_comparison, is_truth, is_way, is_end}
-use Rattle.sq_parse.specs.Tok.{Tok, head, next, behind, done}
-use Rattle.sq_parse.specs.Tree.{name_of, column_of, number_term, column_term, signed, sum_of, begin_of, comparison_by, truth_by, tested, all_of, any_of, source_of, joined_on, way_of, statement_of}
-use Rattle.sq_parse.specs.Reading.{Parser, Outcome, and_then, pure, ◌>>=◌, ◌<$>◌, ◌<+>◌, token, mark, number, choose, optional, many, after, separated, list_of, closed, enclosed, refuse}
+use Rattle.sq_parse.specs.Tok.{Tok, next, behind, done}
+use Rattle.sq_parse.specs.Tree.{name_of, column_of, number_term, column_term, signed, sum_of, begin_of, comparison_by, truth_by, tested, all_of, any_of, source_of, joined_on, statement_of}
+use Rattle.sq_parse.specs.Reading.{Parser, pure, ◌>>=◌, ◌<$>◌, ◌<+>◌, token, mark, number, choose, optional, many, after, separated, list_of, enclosed, refuse}
 use Rattle.sq_parse.specs.Grammar.{Limits}
 
 unfoldable pub name : Parser Name

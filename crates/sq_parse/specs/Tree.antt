@@ -1,5 +1,5 @@
 -- What the parts of the grammar stand for.
-use Rattle.std.specs.Prelude.{ℕ, ℤ, pos, Bool, true, false, if◌then◌else◌, List, [], ◌∷◌, map, Option, Some, None, is_some, option_map, unwrap_or}
+use Rattle.std.specs.Prelude.{ℕ, pos, Bool, false, List, [], ◌∷◌, Option, Some, None, is_some, option_map, unwrap_or}
 use Rattle.sq_value.specs.declared.value.Cmp.{Cmp}
 use Rattle.sq_value.specs.declared.value.Cmp.TheVariants as cmp
 use Rattle.sq_value.specs.declared.value.SortWay.{SortWay}
@@ -10,7 +10,6 @@ use Rattle.sq_parse.specs.declared.mark.Mark.TheVariants as k
 use Rattle.sq_parse.specs.declared.tree.Name.{Name}
 use Rattle.sq_parse.specs.declared.tree.ColRef.{ColRef}
 use Rattle.sq_parse.specs.declared.tree.Items.{Items}
-use Rattle.sq_parse.specs.declared.tree.Item.{Item}
 use Rattle.sq_parse.specs.declared.tree.Source.{Source}
 use Rattle.sq_parse.specs.declared.tree.OrderItem.{OrderItem}
 use Rattle.sq_parse.specs.declared.tree.Statement.{Statement}

@@ -89,5 +89,4 @@ pub fn parse(alloc: Global, text: &[u8]) -> Result<Script, ParseFault>
 /// The law that a list of tokens has at most one tree, within the limits or not. It does nothing.
 pub fn one_tree()
     ensures { spec.OneTree }
-{
-}
+{}

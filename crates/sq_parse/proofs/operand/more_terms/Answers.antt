@@ -1,4 +1,4 @@
-use Rattle.std.proofs.Common.{rules, ◌≡◌, ◌<◌, ◌≤◌, length, refl}
+use Rattle.std.proofs.Common.{rules}
 use Rattle.sq_parse.specs.Grammar.{shipped}
 use Rattle.sq_parse.specs.Mark.{is_sign}
 use Rattle.sq_parse.specs.Reader as read

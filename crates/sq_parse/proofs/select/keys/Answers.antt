@@ -1,6 +1,5 @@
-use Rattle.std.proofs.Common.{rules, ◌≡◌, ◌<◌, ◌∙◌, ◌∷◌, [], length, Ok, true, false}
+use Rattle.std.proofs.Common.{rules, ◌≡◌, ◌∙◌, true, false}
 use Rattle.sq_parse.specs.declared.mark.Mark.TheVariants as k
-use Rattle.sq_parse.specs.Grammar.{shipped}
 use Rattle.sq_parse.specs.Mark.{is}
 use Rattle.sq_parse.specs.Tok.{next}
 use Rattle.sq_parse.specs.Reading.{after}
