@@ -1,0 +1,16 @@
+pub mod FormLemmas
+pub mod PieceLemmas
+pub mod TokenLemmas
+pub mod CursorLemmas
+pub mod Marks
+pub mod Exact
+pub mod OperandsExact
+pub mod ItemsExact
+pub mod PredicatesExact
+pub mod ConditionsExact
+pub mod StatementsExact
+pub mod Loops
+pub mod Shrinking
+pub mod Steps
+pub mod ParseLemmas
+pub mod Wider

@@ -1,0 +1,13 @@
+pub mod Form
+pub mod Piece
+pub mod Quoted
+pub mod Token
+pub mod Mark
+pub mod Tok
+pub mod Cursor
+pub mod Rules
+pub mod Reading
+pub mod Tree
+pub mod Grammar
+pub mod Reader
+pub mod Parse

@@ -1,0 +1,121 @@
+//! What a script says, as a tree with the places of its parts.
+
+use sq_value::{Cmp, SortWay, SqText, Truth};
+use sqlite_items::{Boxed, Items as List};
+
+/// A name as it is written, without the quotes of a delimited one, and the place of its first byte.
+#[derive(Debug, Drop)]
+pub struct Name {
+    pub text: SqText,
+    pub at: u32,
+}
+
+/// A column, by its name and, where one is written, its alias.
+#[derive(Debug, Drop)]
+pub struct ColRef {
+    pub alias: Option<Name>,
+    pub column: Name,
+}
+
+/// A select list: everything, or one or more items.
+#[derive(Debug, Drop)]
+pub enum Items {
+    Star,
+    List(List<Item>),
+}
+
+/// An item of a select list: all columns of an alias, or a column and the name that it gets.
+#[derive(Debug, Drop)]
+pub enum Item {
+    AllOf(Name),
+    Col(ColRef, Option<Name>),
+}
+
+/// A table of FROM under its alias, which is its own name where none is written, and the condition
+/// under which it was joined.
+#[derive(Debug, Drop)]
+pub struct Source {
+    pub table: Name,
+    pub alias: Name,
+    pub on: Option<Tree>,
+}
+
+/// A column of ORDER BY, and how it is sorted.
+#[derive(Debug, Drop)]
+pub struct OrderItem {
+    pub column: ColRef,
+    pub way: SortWay,
+}
+
+/// A SELECT statement.
+#[derive(Debug, Drop)]
+pub struct Statement {
+    pub items: Items,
+    pub sources: List<Source>,
+    pub condition: Option<Tree>,
+    pub order: List<OrderItem>,
+}
+
+/// A script: 1 to 64 statements, in order.
+#[derive(Debug, Drop)]
+pub struct Script {
+    pub statements: List<Statement>,
+}
+
+/// A term of a sum: a number, a column, or their product. `at` is the place behind its sign.
+#[derive(Debug, Drop)]
+pub struct RawTerm {
+    pub at: u32,
+    pub negative: bool,
+    pub number: Option<i64>,
+    pub column: Option<ColRef>,
+}
+
+/// What a predicate speaks of. `at` is the place of its first byte.
+#[derive(Debug, Drop)]
+pub enum Operand {
+    Null { at: u32 },
+    Text { at: u32, text: SqText },
+    Sum { at: u32, terms: List<RawTerm> },
+}
+
+/// A condition. `at` is the place of a predicate's first byte.
+#[derive(Debug, Drop)]
+pub enum Tree {
+    Compare {
+        at: u32,
+        left: Operand,
+        cmp: Cmp,
+        right: Operand,
+    },
+    Between {
+        at: u32,
+        negated: bool,
+        subject: Operand,
+        low: Operand,
+        high: Operand,
+    },
+    Within {
+        at: u32,
+        negated: bool,
+        subject: Operand,
+        items: List<Operand>,
+    },
+    IsNull {
+        at: u32,
+        negated: bool,
+        subject: Operand,
+    },
+    Call {
+        function: Name,
+        args: List<Operand>,
+    },
+    Not(Boxed<Tree>),
+    All(List<Tree>),
+    Any(List<Tree>),
+    Is {
+        tree: Boxed<Tree>,
+        negated: bool,
+        truth: Truth,
+    },
+}
