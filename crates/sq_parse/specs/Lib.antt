@@ -11,3 +11,4 @@ pub mod Tree
 pub mod Grammar
 pub mod Reader
 pub mod Parse
+pub mod Fault

@@ -1,9 +1,10 @@
 //! The parser.
 
-ghost use Rattle.std.specs.Prelude.{◌≡◌, ◌≢◌, ◌<◌, length, IfOk, MatchResult, Ok, Err};
+ghost use Rattle.std.specs.Prelude.{◌≡◌, ◌≢◌, ◌⊎◌, ◌<◌, length, IfOk, IfErr, MatchResult, Ok, Err};
 ghost use Rattle.std.specs.Str.{IsUtf8};
 ghost use Rattle.std.specs.Str.Lossy.{utf8_valid_len};
 ghost use Rattle.sq_parse.specs.Parse as spec;
+ghost use Rattle.sq_parse.specs.Fault.{IsFault, FaultIsRead};
 ghost use Rattle.sq_parse.specs.declared.tree.Script.{Script};
 
 use crate::cursor::Cursor;
@@ -16,13 +17,13 @@ use std::str;
 /// Why a text is no script. `at` is a byte of the text, or its length.
 #[derive(Clone, Copy, Debug, PartialEq, Eq)]
 pub enum ParseFault {
-    /// The text isn't UTF-8; no character begins at this byte.
+    /// The text isn't UTF-8; this is the first byte that belongs to no character.
     NotUtf8 { at: u32 },
     /// No script goes on with this token, or the text ends too early.
     Syntax { at: u32 },
     /// A number above 9,223,372,036,854,775,807, or above 2,147,483,647 beside a `*`.
     NumberTooLarge { at: u32 },
-    /// A parenthesis or NOT of a condition in which 64 others are open.
+    /// A parenthesis or NOT of a condition, where 64 others are open.
     TooDeep { at: u32 },
     /// The first token of the 65th statement.
     TooManyStatements { at: u32 },
@@ -68,17 +69,28 @@ fn parse_text(alloc: Global, text: &str) -> Result<Script, ParseFault>
 /// The script that a text of fewer than 4,294,967,295 bytes spells.
 ///
 /// The time is linear in the text, and nothing but the tree is kept. A name takes some 100 bytes
-/// beside its own, in three pieces, so 64 MiB of columns of one letter take about 4.5 GB; a text
-/// in one piece would mend most of that.
+/// beside its own, in three pieces, so 64 MiB of columns of one letter take about 4.5 GB.
 ///
 /// # Errors
-/// `NotUtf8`: exactly where the text isn't UTF-8. Otherwise the fault at which reading from left to
-/// right stops, as [`ParseFault`] says, or `Memory`.
+/// `NotUtf8`: exactly where the text isn't UTF-8, at the end of its longest front that is. Otherwise
+/// the fault with the least place, and at one place the first of [`ParseFault`]'s variants; or
+/// `Memory`.
+///
+/// - `Syntax` is at the first token such that no script begins with the tokens up to and with it, or
+///   at the length of a text that begins a script and is none; a script is meant without the limits
+///   of the other three.
+/// - `NumberTooLarge` is at a number above 9,223,372,036,854,775,807, or above 2,147,483,647 directly
+///   before or behind a `*`, whether or not that multiplies.
+/// - `TooDeep` is at the parenthesis or NOT of a condition that would be the 65th open one; a NOT is
+///   open up to the end of what it denies, and parentheses of IN and of calls don't count.
+/// - `TooManyStatements` is at the first token of the 65th statement.
 pub fn parse(alloc: Global, text: &[u8]) -> Result<Script, ParseFault>
     requires { length text.now < 4294967295 }
     ensures utf8 { IfOk result (λ s. IsUtf8 text.now) }
     ensures spelled { IfOk result (λ s. spec.Spelled text.now s) }
     ensures every { (s : Script) → IsUtf8 text.now → spec.Spelled text.now s → MatchResult result (λ found. found ≡ s) (λ f. f ≡ ParseFault.Memory) }
+    ensures fault { IfErr result (λ f. f ≢ ParseFault.Memory → IsFault text.now f) }
+    ensures every_fault { (f : ParseFault) → IsFault text.now f → MatchResult result (λ s. ⊥) (λ found. (found ≡ f) ⊎ (found ≡ ParseFault.Memory)) }
     ensures not_utf8 { (IsUtf8 text.now → ⊥) → result ≡ Err (ParseFault.NotUtf8 (utf8_valid_len text.now)) }
     ensures stops { IsUtf8 text.now → spec.Answers text.now result }
 {
@@ -93,4 +105,10 @@ pub fn parse(alloc: Global, text: &[u8]) -> Result<Script, ParseFault>
 /// The law that a list of tokens has at most one tree, within the limits or not. It does nothing.
 pub fn one_tree()
     ensures { spec.OneTree }
+{}
+
+/// The law that reading a text of UTF-8 from left to right stops at its first fault, and at no other.
+/// It does nothing.
+pub fn first_fault()
+    ensures { FaultIsRead }
 {}

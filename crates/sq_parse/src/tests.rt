@@ -6,6 +6,9 @@ use std::alloc::Global;
 use std::process::Abort;
 use std::test::Fail;
 
+mod places;
+mod trees;
+
 // The letter of a token's kind, with its content where it has one.
 fn shown(kind: &TokenKind) -> (u8, &str) {
     match kind {
@@ -214,81 +217,5 @@ fn limits_are_met(rt: HostRuntime) -> Result<(), Fail> {
     let more = repeated(rt.alloc(), "", "SELECT x FROM n;", 65, "")?;
     assert!(rt; more.len() < 2000);
     assert_eq!(rt; answer(rt.alloc(), more.as_bytes())?, (5, 1024));
-    Ok(())
-}
-
-// Whether a text's tree is written as these pieces, one behind another.
-fn has_tree(alloc: Global, text: &str, pieces: &[&str]) -> Result<bool, Fail>
-    requires { length text.now < 4294967295 }
-{
-    let mut want = String::new(alloc);
-    for piece in pieces {
-        want.push_str(piece)?;
-    }
-    Ok(match parse(alloc, text.as_bytes()) {
-        Ok(script) => format!(in alloc; "{script:?}")?.as_str() == want.as_str(),
-        Err(_fault) => false,
-    })
-}
-
-const ONE_COLUMN: [&str; 5] = [
-    "Script { statements: Items { items: [Statement { items: List(Items { items: [",
-    "Col(ColRef { alias: None, column: Name { text: SqText { text: \"x\" }, at: 7 } }, None)] }), ",
-    "sources: Items { items: [Source { table: Name { text: SqText { text: \"n\" }, at: 14 }, ",
-    "alias: Name { text: SqText { text: \"n\" }, at: 14 }, on: None }] }, ",
-    "condition: None, order: Items { items: [] } }] } }",
-];
-
-const BIG_SPENDERS: [&str; 40] = [
-    "Script { statements: Items { items: [Statement { items: List(Items { items: [",
-    "Col(ColRef { alias: Some(Name { text: SqText { text: \"p\" }, at: 23 }), ",
-    "column: Name { text: SqText { text: \"name\" }, at: 25 } }, ",
-    "Some(Name { text: SqText { text: \"who\" }, at: 33 })), ",
-    "Col(ColRef { alias: Some(Name { text: SqText { text: \"o\" }, at: 38 }), ",
-    "column: Name { text: SqText { text: \"total\" }, at: 40 } }, None)] }), ",
-    "sources: Items { items: [",
-    "Source { table: Name { text: SqText { text: \"people\" }, at: 51 }, ",
-    "alias: Name { text: SqText { text: \"p\" }, at: 58 }, on: None }, ",
-    "Source { table: Name { text: SqText { text: \"orders\" }, at: 65 }, ",
-    "alias: Name { text: SqText { text: \"o\" }, at: 72 }, ",
-    "on: Some(Compare { at: 77, left: Sum { at: 77, terms: Items { items: [",
-    "RawTerm { at: 77, negative: false, number: None, column: Some(ColRef { alias: ",
-    "Some(Name { text: SqText { text: \"o\" }, at: 77 }), ",
-    "column: Name { text: SqText { text: \"person\" }, at: 79 } }) }] } }, ",
-    "cmp: Eq, right: Sum { at: 88, terms: Items { items: [",
-    "RawTerm { at: 88, negative: false, number: None, column: Some(ColRef { alias: ",
-    "Some(Name { text: SqText { text: \"p\" }, at: 88 }), ",
-    "column: Name { text: SqText { text: \"id\" }, at: 90 } }) }] } } }) }] }, ",
-    "condition: Some(All(Items { items: [",
-    "Between { at: 99, negated: false, subject: Sum { at: 99, terms: Items { items: [",
-    "RawTerm { at: 99, negative: false, number: None, column: Some(ColRef { alias: ",
-    "Some(Name { text: SqText { text: \"o\" }, at: 99 }), ",
-    "column: Name { text: SqText { text: \"total\" }, at: 101 } }) }] } }, ",
-    "low: Sum { at: 115, terms: Items { items: [",
-    "RawTerm { at: 115, negative: false, number: Some(50), column: None }] } }, ",
-    "high: Sum { at: 122, terms: Items { items: [",
-    "RawTerm { at: 122, negative: false, number: Some(200), column: None }] } } }, ",
-    "IsNull { at: 130, negated: true, subject: Sum { at: 130, terms: Items { items: [",
-    "RawTerm { at: 130, negative: false, number: None, column: Some(ColRef { alias: ",
-    "Some(Name { text: SqText { text: \"p\" }, at: 130 }), ",
-    "column: Name { text: SqText { text: \"city\" }, at: 132 } }) }] } } }] })), ",
-    "order: Items { items: [",
-    "OrderItem { column: ColRef { alias: ",
-    "Some(Name { text: SqText { text: \"o\" }, at: 158 }), ",
-    "column: Name { text: SqText { text: \"total\" }, at: 160 } }, ",
-    "way: SortWay { descending: true, nulls_first: true } }, ",
-    "OrderItem { column: ColRef { alias: None, ",
-    "column: Name { text: SqText { text: \"who\" }, at: 172 } }, ",
-    "way: SortWay { descending: false, nulls_first: false } }] } }] } }",
-];
-
-#[test]
-fn texts_have_their_trees(rt: HostRuntime) -> Result<(), Fail> {
-    let alloc = rt.alloc();
-    assert!(rt; has_tree(alloc, "SELECT x FROM n", &ONE_COLUMN)?);
-    let text =
-        "-- big spenders\nselect p.name as who, o.total from people p join orders o on o.person = p.id where o.total between 50 and 200 and p.city is not null order by o.total desc, who;";
-    assert!(rt; text.len() < 1000);
-    assert!(rt; has_tree(alloc, text, &BIG_SPENDERS)?);
     Ok(())
 }
