@@ -14,3 +14,5 @@ pub mod Shrinking
 pub mod Steps
 pub mod ParseLemmas
 pub mod Wider
+pub mod Places
+pub mod Tracks
