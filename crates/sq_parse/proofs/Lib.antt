@@ -16,3 +16,4 @@ pub mod ParseLemmas
 pub mod Wider
 pub mod Places
 pub mod Tracks
+pub mod OperandsTrack

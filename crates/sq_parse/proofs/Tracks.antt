@@ -374,20 +374,84 @@ right_failed test p' x holds = record {
 pub told : (test : Mark → Bool) (b : Bool) (ts us rest w : List Tok) → ts ≡ us ++ rest → test (next ts) ≡ b → next rest ≡ next w → test (next (us ++ w)) ≡ b
 told test b ts us rest w parts e meets = ap test (sym (next_same us rest w meets) ∙ sym (ap next parts)) ∙ e
 
--- what a reading function does before a token that begins its part, for a rule that has more
-pub record TracksWhen {A : Type 0} (test : Mark → Bool) (l l' : List Tok → A → Type 0) (p p' : Parser A) (C : Stop → Type 0) (pre post : Mark → Bool) : Type 0 where
-  pub passes : (ts : List Tok) (a : A) (rest : List Tok) → test (next ts) ≡ true → p ts ≡ Ok (a, rest) → Passed l l' p' pre post ts a rest
-  pub fails : (ts : List Tok) (s : Stop) (rest : List Tok) → test (next ts) ≡ true → p ts ≡ Err (s, rest) → Failed l l' p' C pre ts s rest
+-- what a reading function does with tokens that pass a test, for a rule that may have more
+pub record TracksWhen {A : Type 0} (test : List Tok → Bool) (l l' : List Tok → A → Type 0) (p p' : Parser A) (C : Stop → Type 0) (pre post : Mark → Bool) : Type 0 where
+  pub passes : (ts : List Tok) (a : A) (rest : List Tok) → test ts ≡ true → p ts ≡ Ok (a, rest) → Passed l l' p' pre post ts a rest
+  pub fails : (ts : List Tok) (s : Stop) (rest : List Tok) → test ts ≡ true → p ts ≡ Err (s, rest) → Failed l l' p' C pre ts s rest
 
-pub always : {A : Type 0} {test : Mark → Bool} {l l' : List Tok → A → Type 0} {p p' : Parser A} {C : Stop → Type 0} {pre post : Mark → Bool} → Tracks l l' p p' C pre post → TracksWhen test l l' p p' C pre post
+pub always : {A : Type 0} {test : List Tok → Bool} {l l' : List Tok → A → Type 0} {p p' : Parser A} {C : Stop → Type 0} {pre post : Mark → Bool} → Tracks l l' p p' C pre post → TracksWhen test l l' p p' C pre post
 always x = record { passes = λ ts a rest h e. x.passes ts a rest e; fails = λ ts s rest h e. x.fails ts s rest e }
 
-pub along_when : {A : Type 0} {test : Mark → Bool} {l l' m m' : List Tok → A → Type 0} {p p' : Parser A} {C : Stop → Type 0} {pre post : Mark → Bool}
+pub along_when : {A : Type 0} {test : List Tok → Bool} {l l' m m' : List Tok → A → Type 0} {p p' : Parser A} {C : Stop → Type 0} {pre post : Mark → Bool}
     → ((us : List Tok) (a : A) → l us a → m us a) → ((us : List Tok) (a : A) → l' us a → m' us a) → TracksWhen test l l' p p' C pre post → TracksWhen test m m' p p' C pre post
 along_when from from' x = record {
   passes = λ ts a rest h e. along_passed from from' (x.passes ts a rest h e);
   fails = λ ts s rest h e. along_failed from from' (x.fails ts s rest h e);
 }
+
+pub gives_when : {A B : Type 0} {test : List Tok → Bool} {l l' : List Tok → A → Type 0} {p p' : Parser A} {C : Stop → Type 0} {pre post : Mark → Bool} (f : A → B) → TracksWhen test l l' p p' C pre post → TracksWhen test (f ⊛ l) (f ⊛ l') (f <$> p) (f <$> p') C pre post
+gives_when {l = l} {l'} {p} {p'} {C} {pre} {post} f x = record {
+  passes = λ ts b rest h e.
+      let o = and_then_ok (p ts) (λ a. read.pure (f a)) (b, rest) e in
+      let pair = Ok-value o.3 in
+      subst (λ m. Passed (f ⊛ l) (f ⊛ l') (f <$> p') pre post ts b m) (ap (λ z. z.1) pair) (given_passed f o.0 (ap (λ z. z.0) pair) (x.passes ts o.0 o.1 h o.2));
+  fails = λ ts s rest h e. ⊎_elim
+      (λ i. given_failed f (x.fails ts s rest h i))
+      (λ i. absurd (Ok-Err i.3))
+      (and_then_err (p ts) (λ a. read.pure (f a)) (s, rest) e);
+}
+
+pub chained_when : {A B : Type 0} {test : List Tok → Bool} {l l' : List Tok → A → Type 0} {r r' : A → List Tok → B → Type 0} {p p' : Parser A} {q q' : A → Parser B} {C : Stop → Type 0} {pre mid mid' post : Mark → Bool}
+    → TracksWhen test l l' p p' C pre mid → ((a : A) → Tracks (r a) (r' a) (q a) (q' a) C mid' post) → within mid mid' ≡ true → TracksWhen test (Chain l r) (Chain l' r') (p >>= q) (p' >>= q') C pre post
+chained_when {A} {B} {test} {l} {l'} {r} {r'} {p} {p'} {q} {q'} {C} {pre} {mid} {mid'} {post} x y joins = record {
+  passes = λ ts b rest h e.
+      let o = and_then_ok (p ts) q (b, rest) e in
+      let z : Tracks (r o.0) (r' o.0) (q o.0) (q' o.0) C mid' post = y o.0 in
+      chain_passed q' joins o.1 o.0 (x.passes ts o.0 o.1 h o.2) (z.passes o.1 b rest o.3);
+  fails = λ ts s rest h e. ⊎_elim
+      (λ i. chain_failed q' (λ a. (y a).sample) (x.fails ts s rest h i))
+      (λ i. let z : Tracks (r i.0) (r' i.0) (q i.0) (q' i.0) C mid' post = y i.0 in
+      chain_failed_behind q' joins i.1 i.0 (x.passes ts i.0 i.1 h i.2) (z.fails i.1 s rest i.3))
+      (and_then_err (p ts) q (s, rest) e);
+}
+
+pub followed_when : {A B : Type 0} {test : List Tok → Bool} {l l' : List Tok → A → Type 0} {r r' : List Tok → B → Type 0} {p p' : Parser A} {q q' : Parser B} {C : Stop → Type 0} {pre mid mid' post : Mark → Bool}
+    → TracksWhen test l l' p p' C pre mid → Tracks r r' q q' C mid' post → within mid mid' ≡ true → TracksWhen test (l ⊗ r) (l' ⊗ r') (p <+> q) (p' <+> q') C pre post
+followed_when {l = l} {l'} {r} {r'} x y joins = along_when (from_chain l r) (from_chain l' r') (chained_when x (λ a. gives (λ b. (a, b)) y) joins)
+
+-- one of two by a test of the tokens, which depends on the next token alone once one was read; what fails at once is to fail so whatever stands behind the next token
+module _ {A : Type 0} {l l' r r' : List Tok → A → Type 0} {p p' q q' : Parser A} {C : Stop → Type 0} {pre post : Mark → Bool} (test : List Tok → Bool) (x : TracksWhen test l l' p p' C pre post) (y : TracksWhen (λ ts. not (test ts)) r r' q q' C pre post) (full_l : Full l) (full_r : Full r)
+    (steady : (us rest w : List Tok) → 1 ≤ length us → next rest ≡ next w → test (us ++ rest) ≡ test (us ++ w))
+    (at_once : (s : Stop) (rest w : List Tok) → C s → cond (test rest) (p rest) (q rest) ≡ Err (s, rest) → next rest ≡ next w → cond (test w) (p' w) (q' w) ≡ Err (s, w))
+    (sampled : (us : List Tok) × (a : A) × (l ⊕ r) us a × (l' ⊕ r') us a) where
+  abbrev one_of : Parser A
+  one_of = λ ts. cond (test ts) (p ts) (q ts)
+
+  abbrev one_of' : Parser A
+  one_of' = λ ts. cond (test ts) (p' ts) (q' ts)
+
+  kept : (b : Bool) (ts us rest w : List Tok) → test ts ≡ b → ts ≡ us ++ rest → 1 ≤ length us → next rest ≡ next w → test (us ++ w) ≡ b
+  kept b ts us rest w h parts some m = sym (steady us rest w some m) ∙ (ap test (sym parts) ∙ h)
+
+  not_false : (b : Bool) → b ≡ false → not b ≡ true
+  not_false b e = rw e refl
+
+  settled : (b : Bool) (before ts rest : List Tok) (s : Stop) → ts ≡ before ++ rest → one_of ts ≡ Err (s, rest) → test ts ≡ b → C s → (w : List Tok) → next rest ≡ next w → cond b (p' (before ++ w)) (q' (before ++ w)) ≡ Err (s, w) → one_of' (before ++ w) ≡ Err (s, w)
+  settled b [] ts rest s parts e h c w m again = at_once s rest w c (subst (λ z. one_of z ≡ Err (s, rest)) parts e) m
+  settled b (t ∷ us) ts rest s parts e h c w m again = rw (kept b ts (t ∷ us) rest w h parts (omega arith) m) again
+
+  pub by_test : Tracks (l ⊕ r) (l' ⊕ r') (λ ts. cond (test ts) (p ts) (q ts)) (λ ts. cond (test ts) (p' ts) (q' ts)) C pre post
+  by_test = record {
+    passes = λ ts a rest e. ⊎_elim
+        (λ h. let f = x.passes ts a rest h.0 h.1 in left_passed test q' f (λ w m. kept true ts f.us rest w h.0 f.parts (full_l f.us a f.spelled) m))
+        (λ h. let f = y.passes ts a rest (not_false (test ts) h.0) h.1 in right_passed test p' f (λ w m. kept false ts f.us rest w h.0 f.parts (full_r f.us a f.spelled) m))
+        (if_is (test ts) (p ts) (q ts) (Ok (a, rest)) e);
+    fails = λ ts s rest e. ⊎_elim
+        (λ h. let f = x.fails ts s rest h.0 h.1 in left_failed test q' f (λ c w m. settled true f.before ts rest s f.parts e h.0 c w m (f.again c w m)))
+        (λ h. let f = y.fails ts s rest (not_false (test ts) h.0) h.1 in right_failed test p' f (λ c w m. settled false f.before ts rest s f.parts e h.0 c w m (f.again c w m)))
+        (if_is (test ts) (p ts) (q ts) (Err (s, rest)) e);
+    sample = sampled;
+  }
 
 both : {A : Type 0} (l : List Tok → A → Type 0) (us : List Tok) (a : A) → l us a ⊎ l us a → l us a
 both l us a (inl h) = h
@@ -395,7 +459,7 @@ both l us a (inr h) = h
 
 -- one of two by the next token, both for one rule
 pub chosen : {A : Type 0} {l l' : List Tok → A → Type 0} {p p' q q' : Parser A} {C : Stop → Type 0} {pre post : Mark → Bool} (test : Mark → Bool)
-    → TracksWhen test l l' p p' C pre post → Tracks l l' q q' C pre post → Tracks l l' (read.choose test p q) (read.choose test p' q') C pre post
+    → TracksWhen (λ ts. test (next ts)) l l' p p' C pre post → Tracks l l' q q' C pre post → Tracks l l' (read.choose test p q) (read.choose test p' q') C pre post
 chosen {A} {l} {l'} {p} {p'} {q} {q'} {C} {pre} {post} test x y = record { passes = passes_of; fails = fails_of; sample = y.sample }
   where
     passes_of : (ts : List Tok) (a : A) (rest : List Tok) → read.choose test p q ts ≡ Ok (a, rest) → Passed l l' (read.choose test p' q') pre post ts a rest
@@ -519,3 +583,63 @@ module _ {A : Type 0} {l l' : List Tok → A → Type 0} {p p' : Parser A} {C : 
 
   pub list_of : Tracks (rule.list_of wanted l) (rule.list_of wanted l') (read.list_of wanted p) (read.list_of wanted p') C unstarred unstarred
   list_of = gives (λ p. p.0 ∷ p.1) separated
+
+-- ---- what doesn't fail at once
+
+-- before such a token it reads one at least
+pub record Moves {A : Type 0} (p : Parser A) (C : Stop → Type 0) (begins : Mark → Bool) : Type 0 where
+  pub goes : (ts : List Tok) (s : Stop) (rest : List Tok) → begins (next ts) ≡ true → C s → p ts ≡ Err (s, rest) → length rest < length ts
+
+pub moves_token : (C : Stop → Type 0) (p : Mark → Bool) → Moves (read.token p) C p
+moves_token C p = record { goes = λ ts s rest h c e. absurd (Ok-Err (rw h at e)) }
+
+pub moves_number : {C : Stop → Type 0} (w : ℕ → Bool) → (C stop.NumberTooLarge → ⊥) → Moves (read.number w) C (is k.Number)
+moves_number {C} w never = record {
+  goes = λ ts s rest h c e. ⊎_elim
+      (λ i. ⊎_elim (λ j. absurd (Ok-Err j.1)) (λ j. absurd (never (subst C (sym (ap (λ z. z.0) (Err-value j.1))) c))) (if_is (w (head ts).number) (Ok (head ts, behind ts)) (Err (stop.NumberTooLarge, ts)) (Err (s, rest)) i.1))
+      (λ i. absurd (no_both h i.0))
+      (if_is (is k.Number (next ts)) _ (Err (stop.Syntax, ts)) (Err (s, rest)) e);
+}
+  where
+    no_both : {b : Bool} → b ≡ true → b ≡ false → ⊥
+    no_both x y = cc
+
+pub moves_chain : {A B : Type 0} {p : Parser A} {q : A → Parser B} {C : Stop → Type 0} {b : Mark → Bool} → Moves p C b → Shrinks p → ((a : A) (ts : List Tok) (s : Stop) (rest : List Tok) → q a ts ≡ Err (s, rest) → length rest ≤ length ts) → Moves (p >>= q) C b
+moves_chain {p = p} {q} moves shrinks falls = record {
+  goes = λ ts s rest h c e. ⊎_elim
+      (λ i. moves.goes ts s rest h c i)
+      (λ i. let less : length i.1 < length ts = shrinks ts i.0 i.1 i.2 in
+      let more : length rest ≤ length i.1 = falls i.0 i.1 s rest i.3 in
+      omega arith)
+      (and_then_err (p ts) q (s, rest) e);
+}
+
+pub moves_gives : {A B : Type 0} {p : Parser A} {C : Stop → Type 0} {b : Mark → Bool} (f : A → B) → Moves p C b → Moves (f <$> p) C b
+moves_gives {p = p} f moves = record {
+  goes = λ ts s rest h c e. ⊎_elim
+      (λ i. moves.goes ts s rest h c i)
+      (λ i. absurd (Ok-Err i.3))
+      (and_then_err (p ts) (λ a. read.pure (f a)) (s, rest) e);
+}
+
+pub moves_then : {A B : Type 0} {p : Parser A} {q : Parser B} {C : Stop → Type 0} {b : Mark → Bool} → Moves p C b → Shrinks p → ((ts : List Tok) (s : Stop) (rest : List Tok) → q ts ≡ Err (s, rest) → length rest ≤ length ts) → Moves (p <+> q) C b
+moves_then {A} {B} {p} {q} moves shrinks falls = moves_chain moves shrinks (λ a ts s rest e. ⊎_elim
+    (λ i. falls ts s rest i)
+    (λ i. absurd (Ok-Err i.3))
+    (and_then_err (q ts) (λ b. read.pure (a, b)) (s, rest) e))
+
+pub moves_right : {A : Type 0} {q : Parser A} {C : Stop → Type 0} {b : Mark → Bool} (test : Mark → Bool) (p : Parser A) → apart b test ≡ true → Moves q C b → Moves (read.choose test p q) C b
+moves_right {b = b} test p fails moves = record { goes = λ ts s rest h c e. moves.goes ts s rest h c (rw (apart_at b test fails (next ts) h) at e) }
+
+pub falls : {A : Type 0} {l l' : List Tok → A → Type 0} {p p' : Parser A} {C : Stop → Type 0} {pre post : Mark → Bool} → Tracks l l' p p' C pre post → (ts : List Tok) (s : Stop) (rest : List Tok) → p ts ≡ Err (s, rest) → length rest ≤ length ts
+falls x ts s rest e =
+    let f = x.fails ts s rest e in
+    let both : length ts ≡ length f.before + length rest = ap length f.parts ∙ length-append f.before rest in
+    omega arith
+
+pub shrinks_by : {A : Type 0} {l l' : List Tok → A → Type 0} {p p' : Parser A} {C : Stop → Type 0} {pre post : Mark → Bool} → Tracks l l' p p' C pre post → Full l → Shrinks p
+shrinks_by x full ts a rest e =
+    let f = x.passes ts a rest e in
+    let one = full f.us a f.spelled in
+    let both : length ts ≡ length f.us + length rest = ap length f.parts ∙ length-append f.us rest in
+    omega arith
