@@ -17,3 +17,5 @@ pub mod Wider
 pub mod Places
 pub mod Tracks
 pub mod OperandsTrack
+pub mod ItemsTrack
+pub mod PredicatesTrack

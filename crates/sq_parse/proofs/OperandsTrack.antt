@@ -20,13 +20,13 @@ use Rattle.sq_parse.specs.Grammar.{Limits, shipped}
 use Rattle.sq_parse.specs.Parse.{unlimited}
 use Rattle.sq_parse.specs.Reader as read
 use Rattle.sq_parse.proofs.Marks.{within, apart, apart_at, within_at, all_within, within_self}
-use Rattle.sq_parse.proofs.Exact.{Full, Full-gives, Full-left, Full-number, Ok-value, Err-Ok, no_number}
+use Rattle.sq_parse.proofs.Exact.{Full, Full-either, Full-gives, Full-left, Full-right, Full-number, Full-token, Ok-value, Err-Ok, no_number}
 use Rattle.sq_parse.proofs.Exact as exact
 use Rattle.sq_parse.proofs.Loops.{Shrinks-exact}
 use Rattle.sq_parse.proofs.Shrinking.{nested, no_sign}
 use Rattle.sq_parse.proofs.OperandsExact as operands
 use Rattle.sq_parse.proofs.Places.{is_large, fits, last, first, Clean, next_same}
-use Rattle.sq_parse.proofs.Tracks.{Passed, Failed, Tracks, TracksWhen, Err-value, Ok-Err, if_is, any, unstarred, tok, not_large, token, weaker, along, along_passed, along_failed, alike, alike_passed, alike_failed, gives, followed, after, either, maybe, repeated, always, gives_when, followed_when, by_test, Moves, moves_number, moves_gives, moves_then, falls}
+use Rattle.sq_parse.proofs.Tracks.{Passed, Failed, Tracks, TracksWhen, Err-value, Ok-Err, if_is, any, unstarred, tok, not_large, token, plainly, along, along_passed, along_failed, alike, alike_passed, alike_failed, gives, followed, after, either, maybe, repeated, always, gives_when, followed_when, by_test, Moves, moves_number, moves_token, moves_gives, moves_then, moves_chain, moves_right, falls, shrinks_by}
 
 -- ---- numbers
 
@@ -149,6 +149,26 @@ steady_star : (us rest w : List Tok) → 1 ≤ length us → next rest ≡ next 
 steady_star [] rest w some m = absurd (omega arith)
 steady_star (t ∷ us) rest w some m = ap (is k.Star) (next_same us rest w m)
 
+-- ---- what takes a token at least
+
+pub Full-name : Full g.name
+Full-name = Full-gives name_of (Full-token is_name)
+
+Full-column : Full g.column
+Full-column = Full-gives (λ p. column_of p.0 p.1) (Full-left g.name (rule.optional (rule.after k.Dot g.name)) Full-name)
+
+module _ (limits : Limits) where
+  Full-term : Full (g.term limits)
+  Full-term = Full-either (g.number_led limits) (g.column_led limits)
+      (Full-either _ _ (Full-gives (λ n. number_term n None) (Full-number limits.wide))
+      (Full-gives (λ p. number_term p.0 (Some p.1)) (Full-left (rule.number limits.narrow) (rule.after k.Star g.column) (Full-number limits.narrow))))
+      (Full-gives (λ p. column_term p.0 p.1) (Full-left g.column (rule.optional (rule.after k.Star (rule.number limits.narrow))) Full-column))
+
+  pub Full-operand : Full (g.operand limits)
+  Full-operand = Full-either g.literal (g.sum limits)
+      (Full-either _ _ (Full-gives (λ n. o.Null n.at) (Full-token (is k.Null))) (Full-gives (λ x. o.Text x.at x.text) (Full-token (is k.Text))))
+      (Full-gives (λ p. sum_of p.0 p.1.0 p.1.1) (Full-right (rule.optional (rule.token is_sign)) _ (Full-left (g.term limits) (rule.many (g.signed_term limits)) Full-term)))
+
 module _ (C : Stop → Type 0) (never : C stop.NumberTooLarge → ⊥) where
   pub name : Tracks g.name g.name read.name read.name C any unstarred
   unfolding read.name same
@@ -156,7 +176,7 @@ module _ (C : Stop → Type 0) (never : C stop.NumberTooLarge → ⊥) where
 
   pub column : Tracks g.column g.column read.column read.column C any unstarred
   unfolding read.column same
-  column = gives (λ p. column_of p.0 p.1) (followed name (maybe (is k.Dot) refl (weaker unstarred unstarred (after k.Dot refl refl refl refl name) refl refl)) refl)
+  column = gives (λ p. column_of p.0 p.1) (followed name (maybe (is k.Dot) refl (plainly (after k.Dot refl refl refl refl name))) refl)
 
   pub literal : Tracks g.literal g.literal read.literal read.literal C any unstarred
   unfolding read.literal same
@@ -191,7 +211,7 @@ module _ (C : Stop → Type 0) (never : C stop.NumberTooLarge → ⊥) where
 
   column_led : Tracks (g.column_led shipped) (g.column_led unlimited) (read.column_led shipped) (read.column_led unlimited) C any unstarred
   unfolding read.column_led same
-  column_led = gives (λ p. column_term p.0 p.1) (followed column (maybe (is k.Star) refl (weaker unstarred unstarred behind_star refl refl)) refl)
+  column_led = gives (λ p. column_term p.0 p.1) (followed column (maybe (is k.Star) refl (plainly behind_star)) refl)
 
   -- ---- a number, and perhaps a column behind a `*`
 
@@ -244,7 +264,7 @@ module _ (C : Stop → Type 0) (never : C stop.NumberTooLarge → ⊥) where
 
   pub term : Tracks (g.term shipped) (g.term unlimited) (read.term shipped) (read.term unlimited) C unstarred unstarred
   unfolding read.term
-  term = either (is k.Number) number_led (weaker unstarred unstarred column_led (all_within unstarred) (within_self unstarred))
+  term = either (is k.Number) number_led (plainly column_led)
 
   pub signed_term : Tracks (g.signed_term shipped) (g.signed_term unlimited) (read.signed_term shipped) (read.signed_term unlimited) C any unstarred
   unfolding read.signed_term same
@@ -252,10 +272,10 @@ module _ (C : Stop → Type 0) (never : C stop.NumberTooLarge → ⊥) where
 
   sign : Tracks (rule.optional (rule.token is_sign)) (rule.optional (rule.token is_sign)) (reading.optional is_sign (reading.token is_sign)) (reading.optional is_sign (reading.token is_sign)) C unstarred unstarred
   unfolding same
-  sign = maybe is_sign refl (weaker unstarred unstarred (token C is_sign unstarred k.Plus refl refl refl refl) refl refl)
+  sign = maybe is_sign refl (plainly (token C is_sign unstarred k.Plus refl refl refl refl))
 
   terms : Tracks (rule.many (g.signed_term shipped)) (rule.many (g.signed_term unlimited)) (reading.many is_sign (read.signed_term shipped)) (reading.many is_sign (read.signed_term unlimited)) C unstarred unstarred
-  terms = repeated (g.signed_term shipped) (g.signed_term unlimited) (read.signed_term shipped) (read.signed_term unlimited) C unstarred is_sign (weaker unstarred unstarred signed_term (all_within unstarred) (within_self unstarred))
+  terms = repeated (g.signed_term shipped) (g.signed_term unlimited) (read.signed_term shipped) (read.signed_term unlimited) C unstarred is_sign (plainly signed_term)
       no_sign (operands.Full-signed shipped) (Shrinks-exact (operands.signed_term unlimited) (operands.Full-signed unlimited))
 
   pub sum : Tracks (g.sum shipped) (g.sum unlimited) (read.sum shipped) (read.sum unlimited) C unstarred unstarred
@@ -264,7 +284,7 @@ module _ (C : Stop → Type 0) (never : C stop.NumberTooLarge → ⊥) where
 
   pub operand : Tracks (g.operand shipped) (g.operand unlimited) (read.operand shipped) (read.operand unlimited) C unstarred unstarred
   unfolding read.operand
-  operand = either read.is_literal (weaker unstarred unstarred literal (all_within unstarred) (within_self unstarred)) sum
+  operand = either read.is_literal (plainly literal) sum
 
   -- ---- arguments
 
@@ -310,7 +330,33 @@ module _ (C : Stop → Type 0) (never : C stop.NumberTooLarge → ⊥) where
 
   pub simple : Tracks (g.simple shipped) (g.simple unlimited) (read.simple shipped) (read.simple unlimited) C unstarred unstarred
   unfolding read.simple read.simple_number read.simple_column
-  simple = either read.is_literal (weaker unstarred unstarred literal (all_within unstarred) (within_self unstarred))
+  simple = either read.is_literal (plainly literal)
       (either read.begins_number
       (gives (λ p. sum_of p.0 (number_term p.1 None) []) (followed sign plain_number (within_self unstarred)))
-      (gives (λ c. sum_of None (column_term c None) []) (weaker unstarred unstarred column (all_within unstarred) (within_self unstarred))))
+      (gives (λ c. sum_of None (column_term c None) []) (plainly column)))
+
+  -- ---- what begins with a name doesn't fail at once
+
+  pub name_moves : Moves read.name C is_name
+  unfolding read.name
+  name_moves = moves_gives name_of (moves_token C is_name)
+
+  column_moves : Moves read.column C is_name
+  unfolding read.column same
+  column_moves = moves_gives (λ p. column_of p.0 p.1) (moves_then name_moves (shrinks_by name Full-name) (falls (maybe (is k.Dot) refl (plainly (after k.Dot refl refl refl refl name)))))
+
+  column_led_moves : Moves (read.column_led shipped) C is_name
+  unfolding read.column_led same
+  column_led_moves = moves_gives (λ p. column_term p.0 p.1) (moves_then column_moves (shrinks_by column Full-column) (falls (maybe (is k.Star) refl (plainly behind_star))))
+
+  term_moves : Moves (read.term shipped) C is_name
+  unfolding read.term same
+  term_moves = moves_right (is k.Number) (read.number_led shipped) refl column_led_moves
+
+  sum_moves : Moves (read.sum shipped) C is_name
+  unfolding read.sum read.sum_from same
+  sum_moves = moves_right is_sign _ refl (moves_chain term_moves (shrinks_by term (Full-term shipped)) (λ first. falls (gives (λ more. o.Sum first.at (first ∷ more)) terms)))
+
+  pub operand_moves : Moves (read.operand shipped) C is_name
+  unfolding read.operand same
+  operand_moves = moves_right read.is_literal read.literal refl sum_moves

@@ -573,16 +573,20 @@ pub enclosed : {A : Type 0} {l l' : List Tok → A → Type 0} {p p' : Parser A}
 unfolding same
 enclosed {C = C} x = after k.Open refl refl refl refl (gives (λ q. q.0) (followed x (token C (is k.Close) unstarred k.Close refl refl refl refl) refl))
 
-module _ {A : Type 0} {l l' : List Tok → A → Type 0} {p p' : Parser A} {C : Stop → Type 0} (wanted : Mark) (none : is wanted k.End ≡ false) (plain : apart (is wanted) (is k.Number) ≡ true) (leaves : within (is wanted) unstarred ≡ true) (self : is wanted wanted ≡ true)
-    (shrinks : Shrinks (read.after wanted p')) (x : Tracks l l' p p' C unstarred unstarred) where
-  pub separated : Tracks (rule.separated wanted l) (rule.separated wanted l') (read.separated wanted p) (read.separated wanted p') C unstarred unstarred
-  separated = followed x
-      (repeated (rule.after wanted l) (rule.after wanted l') (read.after wanted p) (read.after wanted p') C unstarred (is wanted) (weaker unstarred unstarred (after wanted none plain leaves self x) (all_within unstarred) (within_self unstarred)) none
-      (Full-after wanted l) shrinks)
-      (within_self unstarred)
+pub separated : {A : Type 0} {l l' : List Tok → A → Type 0} {p p' : Parser A} {C : Stop → Type 0} {keeps : Mark → Bool} (wanted : Mark) → is wanted k.End ≡ false → apart (is wanted) (is k.Number) ≡ true → within (is wanted) keeps ≡ true → is wanted wanted ≡ true
+    → Shrinks (read.after wanted p') → Tracks l l' p p' C keeps keeps → Tracks (rule.separated wanted l) (rule.separated wanted l') (read.separated wanted p) (read.separated wanted p') C keeps keeps
+separated {l = l} {l'} {p} {p'} {C} {keeps} wanted none plain leaves self shrinks x = followed x
+    (repeated (rule.after wanted l) (rule.after wanted l') (read.after wanted p) (read.after wanted p') C keeps (is wanted) (weaker keeps keeps (after wanted none plain leaves self x) (all_within keeps) (within_self keeps)) none
+    (Full-after wanted l) shrinks)
+    (within_self keeps)
 
-  pub list_of : Tracks (rule.list_of wanted l) (rule.list_of wanted l') (read.list_of wanted p) (read.list_of wanted p') C unstarred unstarred
-  list_of = gives (λ p. p.0 ∷ p.1) separated
+pub list_of : {A : Type 0} {l l' : List Tok → A → Type 0} {p p' : Parser A} {C : Stop → Type 0} {keeps : Mark → Bool} (wanted : Mark) → is wanted k.End ≡ false → apart (is wanted) (is k.Number) ≡ true → within (is wanted) keeps ≡ true → is wanted wanted ≡ true
+    → Shrinks (read.after wanted p') → Tracks l l' p p' C keeps keeps → Tracks (rule.list_of wanted l) (rule.list_of wanted l') (read.list_of wanted p) (read.list_of wanted p') C keeps keeps
+list_of wanted none plain leaves self shrinks x = gives (λ p. p.0 ∷ p.1) (separated wanted none plain leaves self shrinks x)
+
+-- what doesn't mind a `*` before it doesn't mind anything else
+pub plainly : {A : Type 0} {l l' : List Tok → A → Type 0} {p p' : Parser A} {C : Stop → Type 0} → Tracks l l' p p' C any unstarred → Tracks l l' p p' C unstarred unstarred
+plainly x = weaker unstarred unstarred x (all_within unstarred) (within_self unstarred)
 
 -- ---- what doesn't fail at once
 
@@ -643,3 +647,13 @@ shrinks_by x full ts a rest e =
     let one = full f.us a f.spelled in
     let both : length ts ≡ length f.us + length rest = ap length f.parts ∙ length-append f.us rest in
     omega arith
+
+nothing_before : (before rest : List Tok) → rest ≡ before ++ rest → before ≡ []
+nothing_before [] rest e = refl
+nothing_before (t ∷ us) rest e = let longer : length rest ≡ length (t ∷ us) + length rest = ap length e ∙ length-append (t ∷ us) rest in absurd (omega arith)
+
+-- a fault at once doesn't depend on what stands behind the next token
+pub again_at_once : {A : Type 0} {l l' : List Tok → A → Type 0} {p p' : Parser A} {C : Stop → Type 0} {pre post : Mark → Bool} → Tracks l l' p p' C pre post → (s : Stop) (rest w : List Tok) → C s → p rest ≡ Err (s, rest) → next rest ≡ next w → p' w ≡ Err (s, w)
+again_at_once {p' = p'} x s rest w c e m =
+    let f = x.fails rest s rest e in
+    subst (λ z. p' (z ++ w) ≡ Err (s, w)) (nothing_before f.before rest f.parts) (f.again c w m)
