@@ -18,12 +18,12 @@ use Rattle.sq_parse.specs.Reader as read
 use Rattle.sq_parse.proofs.Marks.{all_within, within_self}
 use Rattle.sq_parse.proofs.Shrinking as shrinking
 use Rattle.sq_parse.proofs.ItemsExact.{column_rest, dot_rest, from_rest}
-use Rattle.sq_parse.proofs.Tracks.{Tracks, any, unstarred, token, weaker, plainly, along, gives, followed, chained, after, either, maybe, list_of}
+use Rattle.sq_parse.proofs.Tracks.{Faults, Tracks, any, unstarred, token, weaker, plainly, along, gives, followed, chained, after, either, maybe, list_of}
 use Rattle.sq_parse.proofs.OperandsTrack as operands
 
-module _ (C : Stop → Type 0) (never : C stop.NumberTooLarge → ⊥) where
+module _ (C : Faults) where
   name : Tracks g.name g.name read.name read.name C any unstarred
-  name = operands.name C never
+  name = operands.name C
 
   alias : Tracks g.alias g.alias read.alias read.alias C unstarred unstarred
   unfolding read.alias same
@@ -60,7 +60,7 @@ module _ (C : Stop → Type 0) (never : C stop.NumberTooLarge → ⊥) where
   key : Tracks g.key g.key read.key read.key C any unstarred
   unfolding read.key read.falls read.nulls_first same
   key = gives (λ p. record { column = p.0; way = way_of p.1.0 p.1.1 })
-      (followed (operands.column C never) (followed
+      (followed (operands.column C) (followed
       (gives (λ way. unwrap_or (option_map (λ w. is k.Desc w.mark) way) false) (maybe is_way refl (plainly (token C is_way unstarred k.Asc refl refl refl refl))))
       (gives (λ end. option_map (λ e. is k.First e.mark) end) (maybe (is k.Nulls) refl (plainly (after k.Nulls refl refl refl refl (token C is_end unstarred k.First refl refl refl refl)))))
       refl) refl)

@@ -25,8 +25,8 @@ use Rattle.sq_parse.proofs.Exact as exact
 use Rattle.sq_parse.proofs.Loops.{Shrinks-exact}
 use Rattle.sq_parse.proofs.Shrinking.{nested, no_sign}
 use Rattle.sq_parse.proofs.OperandsExact as operands
-use Rattle.sq_parse.proofs.Places.{is_large, fits, last, first, Clean, next_same}
-use Rattle.sq_parse.proofs.Tracks.{Passed, Failed, Tracks, TracksWhen, Err-value, Ok-Err, if_is, any, unstarred, tok, not_large, token, plainly, along, along_passed, along_failed, alike, alike_passed, alike_failed, gives, followed, after, either, maybe, repeated, always, gives_when, followed_when, by_test, Moves, moves_number, moves_token, moves_gives, moves_then, moves_chain, moves_right, falls, shrinks_by}
+use Rattle.sq_parse.proofs.Places.{is_large, fits, last, first, Clean, view, next_same, next_seen}
+use Rattle.sq_parse.proofs.Tracks.{Faults, Passed, Failed, Tracks, TracksWhen, Err-value, Ok-Err, if_is, any, unstarred, tok, not_large, token, plainly, along, along_passed, along_failed, alike, alike_passed, alike_failed, gives, followed, after, either, maybe, repeated, always, gives_when, followed_when, by_test, Moves, moves_number, moves_token, moves_gives, moves_then, moves_chain, moves_right, falls, shrinks_by}
 
 -- ---- numbers
 
@@ -63,7 +63,7 @@ module _ (w : ℕ → Bool) (pre : Mark → Bool) where
       (λ h. absurd (Err-Ok h.1))
       (if_is (is k.Number t.mark) _ (Err (stop.Syntax, t ∷ ts)) (Ok (a, rest)) e)
 
-  module _ (C : Stop → Type 0) (never : C stop.NumberTooLarge → ⊥) where
+  module _ (C : Faults) where
     too_large : (ts : List Tok) → is k.Number (next ts) ≡ true → w (head ts).number ≡ false → w 0 ≡ true → ((left : Mark) → pre left ≡ true → is_large left (head ts).number (next (behind ts)) ≡ true)
         → Failed (rule.number w) (rule.number all_numbers) (reading.number all_numbers) C pre ts stop.NumberTooLarge ts
     unfolding same
@@ -76,7 +76,7 @@ module _ (w : ℕ → Bool) (pre : Mark → Bool) where
       parts = refl;
       begun = (tok k.Number ∷ [], tok k.Number, (refl, refl, zero_fits));
       further = λ _. record { token = t; more = ts; there = refl; us = []; value = t; spelled = (refl, e, refl) };
-      again = λ c. absurd (never c);
+      again = λ c. absurd (C.no_number c);
       clean = λ left _. tt;
       large = λ left m _. fits_not left t (next ts) e (large left m);
     }
@@ -98,8 +98,8 @@ module _ (w : ℕ → Bool) (pre : Mark → Bool) where
           before = [];
           parts = others;
           begun = (tok k.Number ∷ [], tok k.Number, (refl, refl, zero_fits));
-          further = λ no. absurd (no (sym which));
-          again = λ _ v e'. rw (ap (is k.Number) (sym (ap next others ∙ e')) ∙ h.0) (ap (λ x. Err (x, v)) which);
+          further = λ o. absurd (C.no_syntax (subst C.owed (sym which) o));
+          again = λ _ v e'. rw (ap (is k.Number) (sym (ap next others ∙ next_seen rest v e')) ∙ h.0) (ap (λ x. Err (x, v)) which);
           clean = λ left _. tt;
           large = λ left _ too. absurd (not_large (which ∙ too));
         })
@@ -145,9 +145,9 @@ is_false true e = cc
 is_false false e = refl
 
 -- a test of the second token depends on the next one alone once a token was read
-steady_star : (us rest w : List Tok) → 1 ≤ length us → next rest ≡ next w → read.is_starred (us ++ rest) ≡ read.is_starred (us ++ w)
+steady_star : (us rest w : List Tok) → 1 ≤ length us → view rest ≡ view w → read.is_starred (us ++ rest) ≡ read.is_starred (us ++ w)
 steady_star [] rest w some m = absurd (omega arith)
-steady_star (t ∷ us) rest w some m = ap (is k.Star) (next_same us rest w m)
+steady_star (t ∷ us) rest w some m = ap (is k.Star) (next_same us rest w (next_seen rest w m))
 
 -- ---- what takes a token at least
 
@@ -169,7 +169,7 @@ module _ (limits : Limits) where
       (Full-either _ _ (Full-gives (λ n. o.Null n.at) (Full-token (is k.Null))) (Full-gives (λ x. o.Text x.at x.text) (Full-token (is k.Text))))
       (Full-gives (λ p. sum_of p.0 p.1.0 p.1.1) (Full-right (rule.optional (rule.token is_sign)) _ (Full-left (g.term limits) (rule.many (g.signed_term limits)) Full-term)))
 
-module _ (C : Stop → Type 0) (never : C stop.NumberTooLarge → ⊥) where
+module _ (C : Faults) where
   pub name : Tracks g.name g.name read.name read.name C any unstarred
   unfolding read.name same
   name = gives name_of (token C is_name unstarred k.Name refl refl refl refl)
@@ -187,7 +187,7 @@ module _ (C : Stop → Type 0) (never : C stop.NumberTooLarge → ⊥) where
   unfolding same
   narrow = record {
     passes = λ ts a rest e. number_passed shipped.narrow (is k.Star) ts a rest e (λ left m small. narrow_is_small left (head ts).number (next (behind ts)) small);
-    fails = λ ts s rest e. number_failed shipped.narrow (is k.Star) C never ts s rest e refl (λ left m big. narrow_is_large left (head ts).number (next (behind ts)) big (rw m refl));
+    fails = λ ts s rest e. number_failed shipped.narrow (is k.Star) C ts s rest e refl (λ left m big. narrow_is_large left (head ts).number (next (behind ts)) big (rw m refl));
     sample = (tok k.Number ∷ [], tok k.Number, (refl, refl, refl), (refl, refl, refl));
   }
 
@@ -195,14 +195,14 @@ module _ (C : Stop → Type 0) (never : C stop.NumberTooLarge → ⊥) where
   starred : TracksWhen read.is_starred (rule.number shipped.narrow) (rule.number unlimited.narrow) (reading.number shipped.narrow) (reading.number unlimited.narrow) C unstarred unstarred
   starred = record {
     passes = λ ts a rest h e. number_passed shipped.narrow unstarred ts a rest e (λ left m small. narrow_is_small left (head ts).number (next (behind ts)) small);
-    fails = λ ts s rest h e. number_failed shipped.narrow unstarred C never ts s rest e refl (λ left m big. narrow_is_large left (head ts).number (next (behind ts)) big (rw h (or_true (is k.Star left))));
+    fails = λ ts s rest h e. number_failed shipped.narrow unstarred C ts s rest e refl (λ left m big. narrow_is_large left (head ts).number (next (behind ts)) big (rw h (or_true (is k.Star left))));
   }
 
   -- a number beside no `*`
   alone : TracksWhen (λ ts. not (read.is_starred ts)) (rule.number shipped.wide) (rule.number unlimited.wide) (reading.number shipped.wide) (reading.number unlimited.wide) C unstarred unstarred
   alone = record {
     passes = λ ts a rest h e. number_passed shipped.wide unstarred ts a rest e (λ left m small. wide_is_small left (head ts).number (next (behind ts)) small (no_star_left left m) (is_false (read.is_starred ts) h));
-    fails = λ ts s rest h e. number_failed shipped.wide unstarred C never ts s rest e refl (λ left m big. wide_is_large left (head ts).number (next (behind ts)) big);
+    fails = λ ts s rest h e. number_failed shipped.wide unstarred C ts s rest e refl (λ left m big. wide_is_large left (head ts).number (next (behind ts)) big);
   }
 
   pub behind_star : Tracks (rule.after k.Star (rule.number shipped.narrow)) (rule.after k.Star (rule.number unlimited.narrow)) (reading.after k.Star (reading.number shipped.narrow)) (reading.after k.Star (reading.number unlimited.narrow)) C any unstarred
@@ -234,21 +234,21 @@ module _ (C : Stop → Type 0) (never : C stop.NumberTooLarge → ⊥) where
   }
     where
       with_moves : Moves (with_column shipped) C (is k.Number)
-      with_moves = moves_gives (λ p. number_term p.0 (Some p.1)) (moves_then (moves_number shipped.narrow never) (Shrinks-exact (exact.number shipped.narrow) (Full-number shipped.narrow)) (falls star_column))
+      with_moves = moves_gives (λ p. number_term p.0 (Some p.1)) (moves_then (moves_number shipped.narrow) (Shrinks-exact (exact.number shipped.narrow) (Full-number shipped.narrow)) (falls star_column))
 
       alone_moves : Moves (by_itself shipped) C (is k.Number)
-      alone_moves = moves_gives (λ n. number_term n None) (moves_number shipped.wide never)
+      alone_moves = moves_gives (λ n. number_term n None) (moves_number shipped.wide)
 
   led_none : (limits : Limits) (b : Bool) (ts : List Tok) → is k.Number (next ts) ≡ false → cond b (with_column limits ts) (by_itself limits ts) ≡ Err (stop.Syntax, ts)
   led_none limits true ts e = rw e refl
   led_none limits false ts e = rw e refl
 
-  led_at_once : (b : Bool) (s : Stop) (rest w : List Tok) → is k.Number (next rest) ≡ b → C s → cond (read.is_starred rest) (with_column shipped rest) (by_itself shipped rest) ≡ Err (s, rest) → next rest ≡ next w
+  led_at_once : (b : Bool) (s : Stop) (rest w : List Tok) → is k.Number (next rest) ≡ b → C.counts s → cond (read.is_starred rest) (with_column shipped rest) (by_itself shipped rest) ≡ Err (s, rest) → view rest ≡ view w
       → cond (read.is_starred w) (with_column unlimited w) (by_itself unlimited w) ≡ Err (s, w)
   led_at_once true s rest w h c e m = let less : length rest < length rest = led_moves.goes rest s rest h c e in absurd (omega arith)
   led_at_once false s rest w h c e m =
       let which : stop.Syntax ≡ s = ap (λ z. z.0) (Err-value (sym (led_none shipped (read.is_starred rest) rest h) ∙ e)) in
-      led_none unlimited (read.is_starred w) w (ap (is k.Number) (sym m) ∙ h) ∙ ap (λ z. Err (z, w)) which
+      led_none unlimited (read.is_starred w) w (ap (is k.Number) (sym (next_seen rest w m)) ∙ h) ∙ ap (λ z. Err (z, w)) which
 
   number_led : Tracks (g.number_led shipped) (g.number_led unlimited) (read.number_led shipped) (read.number_led unlimited) C unstarred unstarred
   unfolding read.number_led same
@@ -301,17 +301,17 @@ module _ (C : Stop → Type 0) (never : C stop.NumberTooLarge → ⊥) where
   }
     where
       narrow_moves : Moves (reading.number shipped.narrow) C (is k.Number)
-      narrow_moves = moves_number shipped.narrow never
+      narrow_moves = moves_number shipped.narrow
 
       wide_moves : Moves (reading.number shipped.wide) C (is k.Number)
-      wide_moves = moves_number shipped.wide never
+      wide_moves = moves_number shipped.wide
 
-  plain_at_once : (b : Bool) (s : Stop) (rest w : List Tok) → is k.Number (next rest) ≡ b → C s → cond (read.is_starred rest) (reading.number shipped.narrow rest) (reading.number shipped.wide rest) ≡ Err (s, rest) → next rest ≡ next w
+  plain_at_once : (b : Bool) (s : Stop) (rest w : List Tok) → is k.Number (next rest) ≡ b → C.counts s → cond (read.is_starred rest) (reading.number shipped.narrow rest) (reading.number shipped.wide rest) ≡ Err (s, rest) → view rest ≡ view w
       → cond (read.is_starred w) (reading.number unlimited.narrow w) (reading.number unlimited.wide w) ≡ Err (s, w)
   plain_at_once true s rest w h c e m = let less : length rest < length rest = plain_moves.goes rest s rest h c e in absurd (omega arith)
   plain_at_once false s rest w h c e m =
       let which : stop.Syntax ≡ s = ap (λ z. z.0) (Err-value (sym (plain_none shipped (read.is_starred rest) rest h) ∙ e)) in
-      plain_none unlimited (read.is_starred w) w (ap (is k.Number) (sym m) ∙ h) ∙ ap (λ z. Err (z, w)) which
+      plain_none unlimited (read.is_starred w) w (ap (is k.Number) (sym (next_seen rest w m)) ∙ h) ∙ ap (λ z. Err (z, w)) which
 
   held : (us : List Tok) (a : Tok) → (rule.number shipped.narrow ⊕ rule.number shipped.wide) us a → rule.number shipped.wide us a
   held us a (inl h) = (h.0, h.1, nested a.number h.2)

@@ -3,7 +3,7 @@ use Rattle.std.proofs.Common.{◌≡◌, Bool, true, false, not, ◌&&◌, ◌||
 use Rattle.sq_parse.specs.declared.mark.Mark.{Mark}
 use Rattle.sq_parse.specs.declared.mark.Mark.TheVariants as k
 use Rattle.sq_parse.specs.Mark.{is}
-use Rattle.sq_parse.specs.Tok.{Tok, next}
+use Rattle.sq_parse.specs.Tok.{Tok, next, done}
 
 -- whether a number may not stand between these two tokens
 abbrev pub is_large : Mark → ℕ → Mark → Bool
@@ -45,6 +45,17 @@ next-append (t ∷ us) rest = refl
 pub next_same : (us v w : List Tok) → next v ≡ next w → next (us ++ v) ≡ next (us ++ w)
 next_same [] v w e = e
 next_same (t ∷ us) v w e = refl
+
+-- what a reading function sees of tokens that it doesn't read: the next mark, and whether there is a token
+abbrev pub view : List Tok → Mark × Bool
+view ts = (next ts, done ts)
+
+pub view_same : (us v w : List Tok) → view v ≡ view w → view (us ++ v) ≡ view (us ++ w)
+view_same [] v w e = e
+view_same (t ∷ us) v w e = refl
+
+pub next_seen : (v w : List Tok) → view v ≡ view w → next v ≡ next w
+next_seen v w e = ap (λ z. z.0) e
 
 pub Clean-append : (left : Mark) (us vs : List Tok) (right : Mark) → Clean left us (first vs right) → Clean (last left us) vs right → Clean left (us ++ vs) right
 Clean-append left [] vs right x y = y

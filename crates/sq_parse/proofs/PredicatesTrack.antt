@@ -25,8 +25,8 @@ use Rattle.sq_parse.proofs.Exact as exact
 use Rattle.sq_parse.proofs.Loops.{Shrinks, Shrinks-exact}
 use Rattle.sq_parse.proofs.OperandsExact as operands_exact
 use Rattle.sq_parse.proofs.PredicatesExact.{compared_rest, null_rest, between_rest, within_rest, ranged_rest, subject_rest, with_subject, from_rest}
-use Rattle.sq_parse.proofs.Places.{next_same}
-use Rattle.sq_parse.proofs.Tracks.{Tracks, any, unstarred, token, weaker, plainly, along, gives, followed, chained, after, either, maybe, list_of, enclosed, always, by_test, if_is, Moves, moves_gives, moves_then, moves_chain, falls, shrinks_by, again_at_once}
+use Rattle.sq_parse.proofs.Places.{view, next_same, next_seen}
+use Rattle.sq_parse.proofs.Tracks.{Faults, Tracks, any, unstarred, token, weaker, plainly, along, gives, followed, chained, after, either, maybe, list_of, enclosed, always, by_test, if_is, Moves, moves_gives, moves_then, moves_chain, falls, shrinks_by, again_at_once}
 use Rattle.sq_parse.proofs.OperandsTrack as operands
 use Rattle.sq_parse.proofs.OperandsTrack.{Full-name, Full-operand}
 
@@ -45,16 +45,16 @@ unfolding same
 no_comma_simple = Shrinks-exact (exact.after k.Comma refl (operands_exact.simple unlimited (λ n h. refl))) (Full-after k.Comma (g.simple unlimited))
 
 -- a test of the second token depends on the next one alone once a token was read
-steady_call : (us rest w : List Tok) → 1 ≤ length us → next rest ≡ next w → read.begins_call (us ++ rest) ≡ read.begins_call (us ++ w)
+steady_call : (us rest w : List Tok) → 1 ≤ length us → view rest ≡ view w → read.begins_call (us ++ rest) ≡ read.begins_call (us ++ w)
 steady_call [] rest w some m = absurd (omega arith)
-steady_call (x ∷ us) rest w some m = ap (λ z. is_name x.mark && is k.Open z) (next_same us rest w m)
+steady_call (x ∷ us) rest w some m = ap (λ z. is_name x.mark && is k.Open z) (next_same us rest w (next_seen rest w m))
 
 no_call : (ts : List Tok) → is_name (next ts) ≡ false → read.begins_call ts ≡ false
 no_call ts e = rw e refl
 
-module _ (C : Stop → Type 0) (never : C stop.NumberTooLarge → ⊥) where
+module _ (C : Faults) where
   operand : Tracks (g.operand shipped) (g.operand unlimited) (read.operand shipped) (read.operand unlimited) C unstarred unstarred
-  operand = operands.operand C never
+  operand = operands.operand C
 
   pub negated : Tracks (rule.optional (rule.mark k.Not)) (rule.optional (rule.mark k.Not)) (reading.optional (is k.Not) (reading.mark k.Not)) (reading.optional (is k.Not) (reading.mark k.Not)) C unstarred unstarred
   unfolding same
@@ -93,20 +93,20 @@ module _ (C : Stop → Type 0) (never : C stop.NumberTooLarge → ⊥) where
 
   arguments : Tracks (rule.enclosed (rule.list_of k.Comma (g.simple shipped))) (rule.enclosed (rule.list_of k.Comma (g.simple unlimited))) (reading.enclosed (read.simples shipped)) (reading.enclosed (read.simples unlimited)) C any unstarred
   unfolding read.simples same
-  arguments = enclosed (list_of k.Comma refl refl refl refl no_comma_simple (operands.simple C never))
+  arguments = enclosed (list_of k.Comma refl refl refl refl no_comma_simple (operands.simple C))
 
   call : Tracks (g.call shipped) (g.call unlimited) (read.call shipped) (read.call unlimited) C unstarred unstarred
   unfolding read.call
-  call = gives (λ p. t.Call p.0 p.1) (plainly (followed (operands.name C never) arguments (all_within unstarred)))
+  call = gives (λ p. t.Call p.0 p.1) (plainly (followed (operands.name C) arguments (all_within unstarred)))
 
   -- ---- what begins with a name doesn't fail at once
 
   call_moves : Moves (read.call shipped) C is_name
   unfolding read.call
-  call_moves = moves_gives (λ p. t.Call p.0 p.1) (moves_then (operands.name_moves C never) (shrinks_by (operands.name C never) Full-name) (falls arguments))
+  call_moves = moves_gives (λ p. t.Call p.0 p.1) (moves_then (operands.name_moves C) (shrinks_by (operands.name C) Full-name) (falls arguments))
 
   subjects_moves : Moves (read.operand shipped >>= read.behind_subject shipped) C is_name
-  subjects_moves = moves_chain (operands.operand_moves C never) (shrinks_by operand (Full-operand shipped)) (λ x. falls (behind_subject x))
+  subjects_moves = moves_chain (operands.operand_moves C) (shrinks_by operand (Full-operand shipped)) (λ x. falls (behind_subject x))
 
   predicate_moves : Moves (λ ts. cond (read.begins_call ts) (read.call shipped ts) ((read.operand shipped >>= read.behind_subject shipped) ts)) C is_name
   predicate_moves = record {
@@ -116,10 +116,10 @@ module _ (C : Stop → Type 0) (never : C stop.NumberTooLarge → ⊥) where
         (if_is (read.begins_call ts) (read.call shipped ts) ((read.operand shipped >>= read.behind_subject shipped) ts) (Err (s, rest)) e);
   }
 
-  at_once : (b : Bool) (s : Stop) (rest w : List Tok) → is_name (next rest) ≡ b → C s → cond (read.begins_call rest) (read.call shipped rest) ((read.operand shipped >>= read.behind_subject shipped) rest) ≡ Err (s, rest) → next rest ≡ next w
+  at_once : (b : Bool) (s : Stop) (rest w : List Tok) → is_name (next rest) ≡ b → C.counts s → cond (read.begins_call rest) (read.call shipped rest) ((read.operand shipped >>= read.behind_subject shipped) rest) ≡ Err (s, rest) → view rest ≡ view w
       → cond (read.begins_call w) (read.call unlimited w) ((read.operand unlimited >>= read.behind_subject unlimited) w) ≡ Err (s, w)
   at_once true s rest w h c e m = let less : length rest < length rest = predicate_moves.goes rest s rest h c e in absurd (omega arith)
-  at_once false s rest w h c e m = rw (no_call w (ap is_name (sym m) ∙ h)) (again_at_once subjects s rest w c (rw (no_call rest h) at e) m)
+  at_once false s rest w h c e m = rw (no_call w (ap is_name (sym (next_seen rest w m)) ∙ h)) (again_at_once subjects s rest w c (rw (no_call rest h) at e) m)
 
   pub predicate : Tracks (g.predicate shipped) (g.predicate unlimited) (read.predicate shipped) (read.predicate unlimited) C unstarred unstarred
   unfolding read.predicate

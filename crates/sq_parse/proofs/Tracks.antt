@@ -14,7 +14,14 @@ use Rattle.sq_parse.specs.Reading.{Parser, Outcome, and_then, ◌>>=◌, ◌<$>�
 use Rattle.sq_parse.proofs.Marks.{within, within_at, apart, apart_at, all_within, within_self}
 use Rattle.sq_parse.proofs.Exact.{Chain, Full, Full-after, Ok-value, Err-Ok, if_ok, and_then_ok}
 use Rattle.sq_parse.proofs.Loops.{Shrinks, many_step}
-use Rattle.sq_parse.proofs.Places.{fits, last, first, Clean, last-append, next-append, next_same, Clean-append}
+use Rattle.sq_parse.proofs.Places.{fits, last, first, Clean, view, last-append, next-append, next_same, next_seen, view_same, Clean-append}
+
+-- what is asked of faults: which don't depend on what stands behind the next token, and behind which the wide rule goes on
+pub record Faults : Type 1 where
+  pub counts : Stop → Type 0
+  pub owed : Stop → Type 0
+  pub no_number : counts stop.NumberTooLarge → ⊥
+  pub no_syntax : owed stop.Syntax → ⊥
 
 -- what was read: the wide rule too has it, the wide reader reads it before whatever comes next, and no number in it is too large
 pub record Passed {A : Type 0} (l l' : List Tok → A → Type 0) (p' : Parser A) (pre post : Mark → Bool) (ts : List Tok) (a : A) (rest : List Tok) : Type 0 where
@@ -22,7 +29,7 @@ pub record Passed {A : Type 0} (l l' : List Tok → A → Type 0) (p' : Parser A
   pub parts : ts ≡ us ++ rest
   pub spelled : l us a
   pub wide : l' us a
-  pub again : (w : List Tok) → next rest ≡ next w → p' (us ++ w) ≡ Ok (a, w)
+  pub again : (w : List Tok) → view rest ≡ view w → p' (us ++ w) ≡ Ok (a, w)
   pub clean : (left : Mark) → pre left ≡ true → Clean left us (next rest) × (post (last left us) ≡ true)
 
 -- the next token is there, and behind what was read the wide rule goes on with it
@@ -35,18 +42,18 @@ pub record Further {A : Type 0} (l' : List Tok → A → Type 0) (before rest : 
   pub spelled : l' (before ++ token ∷ us) value
 
 -- where reading stopped
-pub record Failed {A : Type 0} (l l' : List Tok → A → Type 0) (p' : Parser A) (Counts : Stop → Type 0) (pre : Mark → Bool) (ts : List Tok) (s : Stop) (rest : List Tok) : Type 0 where
+pub record Failed {A : Type 0} (l l' : List Tok → A → Type 0) (p' : Parser A) (C : Faults) (pre : Mark → Bool) (ts : List Tok) (s : Stop) (rest : List Tok) : Type 0 where
   pub before : List Tok
   pub parts : ts ≡ before ++ rest
   pub begun : (us : List Tok) × (a : A) × l (before ++ us) a
-  pub further : s ≢ stop.Syntax → Further l' before rest
-  pub again : Counts s → (w : List Tok) → next rest ≡ next w → p' (before ++ w) ≡ Err (s, w)
+  pub further : C.owed s → Further l' before rest
+  pub again : C.counts s → (w : List Tok) → view rest ≡ view w → p' (before ++ w) ≡ Err (s, w)
   pub clean : (left : Mark) → pre left ≡ true → Clean left before (next rest)
   pub large : (left : Mark) → pre left ≡ true → s ≡ stop.NumberTooLarge → fits (last left before) (head rest) (next (behind rest)) ≡ false
 
-pub record Tracks {A : Type 0} (l l' : List Tok → A → Type 0) (p p' : Parser A) (Counts : Stop → Type 0) (pre post : Mark → Bool) : Type 0 where
+pub record Tracks {A : Type 0} (l l' : List Tok → A → Type 0) (p p' : Parser A) (C : Faults) (pre post : Mark → Bool) : Type 0 where
   pub passes : (ts : List Tok) (a : A) (rest : List Tok) → p ts ≡ Ok (a, rest) → Passed l l' p' pre post ts a rest
-  pub fails : (ts : List Tok) (s : Stop) (rest : List Tok) → p ts ≡ Err (s, rest) → Failed l l' p' Counts pre ts s rest
+  pub fails : (ts : List Tok) (s : Stop) (rest : List Tok) → p ts ≡ Err (s, rest) → Failed l l' p' C pre ts s rest
   pub sample : (us : List Tok) × (a : A) × l us a × l' us a
 
 -- ---- outcomes
@@ -73,7 +80,7 @@ any m = true
 abbrev pub unstarred : Mark → Bool
 unstarred m = not (is k.Star m)
 
-pub weaker : {A : Type 0} {l l' : List Tok → A → Type 0} {p p' : Parser A} {C : Stop → Type 0} {pre post : Mark → Bool} (pre' post' : Mark → Bool) → Tracks l l' p p' C pre post → within pre' pre ≡ true → within post post' ≡ true → Tracks l l' p p' C pre' post'
+pub weaker : {A : Type 0} {l l' : List Tok → A → Type 0} {p p' : Parser A} {C : Faults} {pre post : Mark → Bool} (pre' post' : Mark → Bool) → Tracks l l' p p' C pre post → within pre' pre ≡ true → within post post' ≡ true → Tracks l l' p p' C pre' post'
 weaker {pre = pre} {post = post} pre' post' x less more = record {
   passes = λ ts a rest e. let y = x.passes ts a rest e in record {
     us = y.us;
@@ -106,7 +113,7 @@ tok m = record { at = 0; mark = m; text = []; number = 0 }
 fits_other : (left : Mark) (t : Tok) (right : Mark) → is k.Number t.mark ≡ false → fits left t right ≡ true
 fits_other left t right e = rw e refl
 
-module _ (C : Stop → Type 0) (p : Mark → Bool) (post : Mark → Bool) (m : Mark) (none : p k.End ≡ false) (plain : apart p (is k.Number) ≡ true) (leaves : within p post ≡ true) (sampled : p m ≡ true) where
+module _ (C : Faults) (p : Mark → Bool) (post : Mark → Bool) (m : Mark) (none : p k.End ≡ false) (plain : apart p (is k.Number) ≡ true) (leaves : within p post ≡ true) (sampled : p m ≡ true) where
   token_passed : (ts : List Tok) (a : Tok) (rest : List Tok) → read.token p ts ≡ Ok (a, rest) → Passed (rule.token p) (rule.token p) (read.token p) any post ts a rest
   token_passed [] a rest e = absurd (Err-Ok (rw none at e))
   token_passed (t ∷ ts) a rest e = ⊎_elim
@@ -134,8 +141,8 @@ module _ (C : Stop → Type 0) (p : Mark → Bool) (post : Mark → Bool) (m : M
         before = [];
         parts = others;
         begun = (tok m ∷ [], tok m, (refl, sampled));
-        further = λ no. absurd (no (sym which));
-        again = λ _ w e'. rw (ap p (sym (ap next others ∙ e')) ∙ h.0) (ap (λ x. Err (x, w)) which);
+        further = λ o. absurd (C.no_syntax (subst C.owed (sym which) o));
+        again = λ _ w e'. rw (ap p (sym (ap next others ∙ next_seen rest w e')) ∙ h.0) (ap (λ x. Err (x, w)) which);
         clean = λ left _. tt;
         large = λ left _ large. absurd (not_large (which ∙ large));
       })
@@ -150,7 +157,7 @@ pub along_passed : {A : Type 0} {l l' m m' : List Tok → A → Type 0} {p' : Pa
     → ((us : List Tok) (a : A) → l us a → m us a) → ((us : List Tok) (a : A) → l' us a → m' us a) → Passed l l' p' pre post ts a rest → Passed m m' p' pre post ts a rest
 along_passed {a = a} from from' x = record { us = x.us; parts = x.parts; spelled = from x.us a x.spelled; wide = from' x.us a x.wide; again = x.again; clean = x.clean }
 
-pub along_failed : {A : Type 0} {l l' m m' : List Tok → A → Type 0} {p' : Parser A} {C : Stop → Type 0} {pre : Mark → Bool} {ts rest : List Tok} {s : Stop}
+pub along_failed : {A : Type 0} {l l' m m' : List Tok → A → Type 0} {p' : Parser A} {C : Faults} {pre : Mark → Bool} {ts rest : List Tok} {s : Stop}
     → ((us : List Tok) (a : A) → l us a → m us a) → ((us : List Tok) (a : A) → l' us a → m' us a) → Failed l l' p' C pre ts s rest → Failed m m' p' C pre ts s rest
 along_failed from from' x = record {
   before = x.before;
@@ -162,7 +169,7 @@ along_failed from from' x = record {
   large = x.large;
 }
 
-pub along : {A : Type 0} {l l' m m' : List Tok → A → Type 0} {p p' : Parser A} {C : Stop → Type 0} {pre post : Mark → Bool}
+pub along : {A : Type 0} {l l' m m' : List Tok → A → Type 0} {p p' : Parser A} {C : Faults} {pre post : Mark → Bool}
     → ((us : List Tok) (a : A) → l us a → m us a) → ((us : List Tok) (a : A) → l' us a → m' us a) → Tracks l l' p p' C pre post → Tracks m m' p p' C pre post
 along from from' x = record {
   passes = λ ts a rest e. along_passed from from' (x.passes ts a rest e);
@@ -173,7 +180,7 @@ along from from' x = record {
 pub alike_passed : {A : Type 0} {l l' : List Tok → A → Type 0} {p' q' : Parser A} {pre post : Mark → Bool} {ts rest : List Tok} {a : A} → ((w : List Tok) → p' w ≡ q' w) → Passed l l' q' pre post ts a rest → Passed l l' p' pre post ts a rest
 alike_passed same_outcome x = record { us = x.us; parts = x.parts; spelled = x.spelled; wide = x.wide; again = λ w e. same_outcome (x.us ++ w) ∙ x.again w e; clean = x.clean }
 
-pub alike_failed : {A : Type 0} {l l' : List Tok → A → Type 0} {p' q' : Parser A} {C : Stop → Type 0} {pre : Mark → Bool} {ts rest : List Tok} {s : Stop} → ((w : List Tok) → p' w ≡ q' w) → Failed l l' q' C pre ts s rest → Failed l l' p' C pre ts s rest
+pub alike_failed : {A : Type 0} {l l' : List Tok → A → Type 0} {p' q' : Parser A} {C : Faults} {pre : Mark → Bool} {ts rest : List Tok} {s : Stop} → ((w : List Tok) → p' w ≡ q' w) → Failed l l' q' C pre ts s rest → Failed l l' p' C pre ts s rest
 alike_failed same_outcome x = record {
   before = x.before;
   parts = x.parts;
@@ -184,7 +191,7 @@ alike_failed same_outcome x = record {
   large = x.large;
 }
 
-pub alike : {A : Type 0} {l l' : List Tok → A → Type 0} {p p' q q' : Parser A} {C : Stop → Type 0} {pre post : Mark → Bool}
+pub alike : {A : Type 0} {l l' : List Tok → A → Type 0} {p p' q q' : Parser A} {C : Faults} {pre post : Mark → Bool}
     → ((ts : List Tok) → p ts ≡ q ts) → ((ts : List Tok) → p' ts ≡ q' ts) → Tracks l l' q q' C pre post → Tracks l l' p p' C pre post
 alike same_outcome same_outcome' x = record {
   passes = λ ts a rest e. alike_passed same_outcome' (x.passes ts a rest (sym (same_outcome ts) ∙ e));
@@ -204,7 +211,7 @@ given_passed f a made x = record {
   clean = x.clean;
 }
 
-pub given_failed : {A B : Type 0} {l l' : List Tok → A → Type 0} {p' : Parser A} {C : Stop → Type 0} {pre : Mark → Bool} {ts rest : List Tok} {s : Stop} (f : A → B) → Failed l l' p' C pre ts s rest → Failed (f ⊛ l) (f ⊛ l') (f <$> p') C pre ts s rest
+pub given_failed : {A B : Type 0} {l l' : List Tok → A → Type 0} {p' : Parser A} {C : Faults} {pre : Mark → Bool} {ts rest : List Tok} {s : Stop} (f : A → B) → Failed l l' p' C pre ts s rest → Failed (f ⊛ l) (f ⊛ l') (f <$> p') C pre ts s rest
 given_failed f x = record {
   before = x.before;
   parts = x.parts;
@@ -215,7 +222,7 @@ given_failed f x = record {
   large = x.large;
 }
 
-pub gives : {A B : Type 0} {l l' : List Tok → A → Type 0} {p p' : Parser A} {C : Stop → Type 0} {pre post : Mark → Bool} (f : A → B) → Tracks l l' p p' C pre post → Tracks (f ⊛ l) (f ⊛ l') (f <$> p) (f <$> p') C pre post
+pub gives : {A B : Type 0} {l l' : List Tok → A → Type 0} {p p' : Parser A} {C : Faults} {pre post : Mark → Bool} (f : A → B) → Tracks l l' p p' C pre post → Tracks (f ⊛ l) (f ⊛ l') (f <$> p) (f <$> p') C pre post
 gives {l = l} {l'} {p} {p'} {C} {pre} {post} f x = record {
   passes = λ ts b rest e.
       let o = and_then_ok (p ts) (λ a. read.pure (f a)) (b, rest) e in
@@ -240,14 +247,14 @@ chain_passed {mid = mid} {mid'} {rest = rest} q' joins m a x y = record {
   parts = x.parts ∙ (ap (λ z. x.us ++ z) y.parts ∙ sym (append_assoc x.us y.us rest));
   spelled = record { first = x.us; second = y.us; between = a; parts = refl; left = x.spelled; right = y.spelled };
   wide = record { first = x.us; second = y.us; between = a; parts = refl; left = x.wide; right = y.wide };
-  again = λ w e. rw (append_assoc, x.again (y.us ++ w) (ap next y.parts ∙ next_same y.us rest w e)) (y.again w e);
+  again = λ w e. rw (append_assoc, x.again (y.us ++ w) (ap view y.parts ∙ view_same y.us rest w e)) (y.again w e);
   clean = λ left h.
       let c = x.clean left h in
       let d = y.clean (last left x.us) (within_at mid mid' joins _ c.1) in
       (Clean-append left x.us y.us (next rest) (meeting left x.us y.us m rest y.parts c.0) d.0, rw last-append d.1);
 }
 
-pub chain_failed : {A B : Type 0} {l l' : List Tok → A → Type 0} {r r' : A → List Tok → B → Type 0} {p' : Parser A} {C : Stop → Type 0} {pre : Mark → Bool} {ts rest : List Tok} {s : Stop} (q' : A → Parser B) → ((a : A) → (us : List Tok) × (b : B) × r a us b × r' a us b) → Failed l l' p' C pre ts s rest → Failed (Chain l r) (Chain l' r') (p' >>= q') C pre ts s rest
+pub chain_failed : {A B : Type 0} {l l' : List Tok → A → Type 0} {r r' : A → List Tok → B → Type 0} {p' : Parser A} {C : Faults} {pre : Mark → Bool} {ts rest : List Tok} {s : Stop} (q' : A → Parser B) → ((a : A) → (us : List Tok) × (b : B) × r a us b × r' a us b) → Failed l l' p' C pre ts s rest → Failed (Chain l r) (Chain l' r') (p' >>= q') C pre ts s rest
 chain_failed q' sampled x =
     let y = sampled x.begun.1 in
     record {
@@ -274,7 +281,7 @@ chain_failed q' sampled x =
       large = x.large;
     }
 
-pub chain_failed_behind : {A B : Type 0} {l l' : List Tok → A → Type 0} {r r' : A → List Tok → B → Type 0} {p' : Parser A} {C : Stop → Type 0} {pre mid mid' : Mark → Bool} {ts rest : List Tok} {s : Stop} (q' : A → Parser B) → within mid mid' ≡ true → (m : List Tok) (a : A) → Passed l l' p' pre mid ts a m → Failed (r a) (r' a) (q' a) C mid' m s rest → Failed (Chain l r) (Chain l' r') (p' >>= q') C pre ts s rest
+pub chain_failed_behind : {A B : Type 0} {l l' : List Tok → A → Type 0} {r r' : A → List Tok → B → Type 0} {p' : Parser A} {C : Faults} {pre mid mid' : Mark → Bool} {ts rest : List Tok} {s : Stop} (q' : A → Parser B) → within mid mid' ≡ true → (m : List Tok) (a : A) → Passed l l' p' pre mid ts a m → Failed (r a) (r' a) (q' a) C mid' m s rest → Failed (Chain l r) (Chain l' r') (p' >>= q') C pre ts s rest
 chain_failed_behind {mid = mid} {mid'} {rest = rest} q' joins m a x y = record {
   before = x.us ++ y.before;
   parts = x.parts ∙ (ap (λ z. x.us ++ z) y.parts ∙ sym (append_assoc x.us y.before rest));
@@ -289,14 +296,14 @@ chain_failed_behind {mid = mid} {mid'} {rest = rest} q' joins m a x y = record {
         value = f.value;
         spelled = record { first = x.us; second = y.before ++ f.token ∷ f.us; between = a; parts = append_assoc x.us y.before (f.token ∷ f.us); left = x.wide; right = f.spelled };
       };
-  again = λ c w e. rw (append_assoc, x.again (y.before ++ w) (ap next y.parts ∙ next_same y.before rest w e)) (y.again c w e);
+  again = λ c w e. rw (append_assoc, x.again (y.before ++ w) (ap view y.parts ∙ view_same y.before rest w e)) (y.again c w e);
   clean = λ left h.
       let c = x.clean left h in
       Clean-append left x.us y.before (next rest) (meeting left x.us y.before m rest y.parts c.0) (y.clean (last left x.us) (within_at mid mid' joins _ c.1));
   large = λ left h is. rw last-append (y.large (last left x.us) (within_at mid mid' joins _ (x.clean left h).1) is);
 }
 
-pub chained : {A B : Type 0} {l l' : List Tok → A → Type 0} {r r' : A → List Tok → B → Type 0} {p p' : Parser A} {q q' : A → Parser B} {C : Stop → Type 0} {pre mid mid' post : Mark → Bool}
+pub chained : {A B : Type 0} {l l' : List Tok → A → Type 0} {r r' : A → List Tok → B → Type 0} {p p' : Parser A} {q q' : A → Parser B} {C : Faults} {pre mid mid' post : Mark → Bool}
     → Tracks l l' p p' C pre mid → ((a : A) → Tracks (r a) (r' a) (q a) (q' a) C mid' post) → within mid mid' ≡ true → Tracks (Chain l r) (Chain l' r') (p >>= q) (p' >>= q') C pre post
 chained {A} {B} {l} {l'} {r} {r'} {p} {p'} {q} {q'} {C} {pre} {mid} {mid'} {post} x y joins = record {
   passes = λ ts b rest e.
@@ -330,23 +337,23 @@ from_chain l r us c h = record {
   right = subst (λ d. r h.second d.1) h.right.2 h.right.1;
 }
 
-pub followed : {A B : Type 0} {l l' : List Tok → A → Type 0} {r r' : List Tok → B → Type 0} {p p' : Parser A} {q q' : Parser B} {C : Stop → Type 0} {pre mid mid' post : Mark → Bool}
+pub followed : {A B : Type 0} {l l' : List Tok → A → Type 0} {r r' : List Tok → B → Type 0} {p p' : Parser A} {q q' : Parser B} {C : Faults} {pre mid mid' post : Mark → Bool}
     → Tracks l l' p p' C pre mid → Tracks r r' q q' C mid' post → within mid mid' ≡ true → Tracks (l ⊗ r) (l' ⊗ r') (p <+> q) (p' <+> q') C pre post
 followed {l = l} {l'} {r} {r'} x y joins = along (from_chain l r) (from_chain l' r') (chained x (λ a. gives (λ b. (a, b)) y) joins)
 
-pub after : {A : Type 0} {l l' : List Tok → A → Type 0} {p p' : Parser A} {C : Stop → Type 0} {mid post : Mark → Bool} (wanted : Mark) → is wanted k.End ≡ false → apart (is wanted) (is k.Number) ≡ true → within (is wanted) mid ≡ true → is wanted wanted ≡ true
+pub after : {A : Type 0} {l l' : List Tok → A → Type 0} {p p' : Parser A} {C : Faults} {mid post : Mark → Bool} (wanted : Mark) → is wanted k.End ≡ false → apart (is wanted) (is k.Number) ≡ true → within (is wanted) mid ≡ true → is wanted wanted ≡ true
     → Tracks l l' p p' C mid post → Tracks (rule.after wanted l) (rule.after wanted l') (read.after wanted p) (read.after wanted p') C any post
 after {C = C} {mid = mid} wanted none plain leaves self x = gives (λ q. q.1) (followed (token C (is wanted) mid wanted none plain leaves self) x (within_self mid))
 
 -- ---- one of two
 
-pub left_passed : {A : Type 0} {l l' r r' : List Tok → A → Type 0} {p' : Parser A} {pre post : Mark → Bool} {ts rest : List Tok} {a : A} (test : List Tok → Bool) (q' : Parser A) (x : Passed l l' p' pre post ts a rest) → ((w : List Tok) → next rest ≡ next w → test (x.us ++ w) ≡ true) → Passed (l ⊕ r) (l' ⊕ r') (λ ts. cond (test ts) (p' ts) (q' ts)) pre post ts a rest
+pub left_passed : {A : Type 0} {l l' r r' : List Tok → A → Type 0} {p' : Parser A} {pre post : Mark → Bool} {ts rest : List Tok} {a : A} (test : List Tok → Bool) (q' : Parser A) (x : Passed l l' p' pre post ts a rest) → ((w : List Tok) → view rest ≡ view w → test (x.us ++ w) ≡ true) → Passed (l ⊕ r) (l' ⊕ r') (λ ts. cond (test ts) (p' ts) (q' ts)) pre post ts a rest
 left_passed test q' x holds = record { us = x.us; parts = x.parts; spelled = inl x.spelled; wide = inl x.wide; again = λ w e. rw (holds w e) (x.again w e); clean = x.clean }
 
-pub right_passed : {A : Type 0} {l l' r r' : List Tok → A → Type 0} {q' : Parser A} {pre post : Mark → Bool} {ts rest : List Tok} {a : A} (test : List Tok → Bool) (p' : Parser A) (x : Passed r r' q' pre post ts a rest) → ((w : List Tok) → next rest ≡ next w → test (x.us ++ w) ≡ false) → Passed (l ⊕ r) (l' ⊕ r') (λ ts. cond (test ts) (p' ts) (q' ts)) pre post ts a rest
+pub right_passed : {A : Type 0} {l l' r r' : List Tok → A → Type 0} {q' : Parser A} {pre post : Mark → Bool} {ts rest : List Tok} {a : A} (test : List Tok → Bool) (p' : Parser A) (x : Passed r r' q' pre post ts a rest) → ((w : List Tok) → view rest ≡ view w → test (x.us ++ w) ≡ false) → Passed (l ⊕ r) (l' ⊕ r') (λ ts. cond (test ts) (p' ts) (q' ts)) pre post ts a rest
 right_passed test p' x holds = record { us = x.us; parts = x.parts; spelled = inr x.spelled; wide = inr x.wide; again = λ w e. rw (holds w e) (x.again w e); clean = x.clean }
 
-pub left_failed : {A : Type 0} {l l' r r' : List Tok → A → Type 0} {p' : Parser A} {C : Stop → Type 0} {pre : Mark → Bool} {ts rest : List Tok} {s : Stop} (test : List Tok → Bool) (q' : Parser A) (x : Failed l l' p' C pre ts s rest) → (C s → (w : List Tok) → next rest ≡ next w → cond (test (x.before ++ w)) (p' (x.before ++ w)) (q' (x.before ++ w)) ≡ Err (s, w))
+pub left_failed : {A : Type 0} {l l' r r' : List Tok → A → Type 0} {p' : Parser A} {C : Faults} {pre : Mark → Bool} {ts rest : List Tok} {s : Stop} (test : List Tok → Bool) (q' : Parser A) (x : Failed l l' p' C pre ts s rest) → (C.counts s → (w : List Tok) → view rest ≡ view w → cond (test (x.before ++ w)) (p' (x.before ++ w)) (q' (x.before ++ w)) ≡ Err (s, w))
     → Failed (l ⊕ r) (l' ⊕ r') (λ ts. cond (test ts) (p' ts) (q' ts)) C pre ts s rest
 left_failed test q' x holds = record {
   before = x.before;
@@ -358,7 +365,7 @@ left_failed test q' x holds = record {
   large = x.large;
 }
 
-pub right_failed : {A : Type 0} {l l' r r' : List Tok → A → Type 0} {q' : Parser A} {C : Stop → Type 0} {pre : Mark → Bool} {ts rest : List Tok} {s : Stop} (test : List Tok → Bool) (p' : Parser A) (x : Failed r r' q' C pre ts s rest) → (C s → (w : List Tok) → next rest ≡ next w → cond (test (x.before ++ w)) (p' (x.before ++ w)) (q' (x.before ++ w)) ≡ Err (s, w))
+pub right_failed : {A : Type 0} {l l' r r' : List Tok → A → Type 0} {q' : Parser A} {C : Faults} {pre : Mark → Bool} {ts rest : List Tok} {s : Stop} (test : List Tok → Bool) (p' : Parser A) (x : Failed r r' q' C pre ts s rest) → (C.counts s → (w : List Tok) → view rest ≡ view w → cond (test (x.before ++ w)) (p' (x.before ++ w)) (q' (x.before ++ w)) ≡ Err (s, w))
     → Failed (l ⊕ r) (l' ⊕ r') (λ ts. cond (test ts) (p' ts) (q' ts)) C pre ts s rest
 right_failed test p' x holds = record {
   before = x.before;
@@ -371,25 +378,25 @@ right_failed test p' x holds = record {
 }
 
 -- the next token alone tells, so what stands behind what was read doesn't matter
-pub told : (test : Mark → Bool) (b : Bool) (ts us rest w : List Tok) → ts ≡ us ++ rest → test (next ts) ≡ b → next rest ≡ next w → test (next (us ++ w)) ≡ b
-told test b ts us rest w parts e meets = ap test (sym (next_same us rest w meets) ∙ sym (ap next parts)) ∙ e
+pub told : (test : Mark → Bool) (b : Bool) (ts us rest w : List Tok) → ts ≡ us ++ rest → test (next ts) ≡ b → view rest ≡ view w → test (next (us ++ w)) ≡ b
+told test b ts us rest w parts e meets = ap test (sym (next_same us rest w (next_seen rest w meets)) ∙ sym (ap next parts)) ∙ e
 
 -- what a reading function does with tokens that pass a test, for a rule that may have more
-pub record TracksWhen {A : Type 0} (test : List Tok → Bool) (l l' : List Tok → A → Type 0) (p p' : Parser A) (C : Stop → Type 0) (pre post : Mark → Bool) : Type 0 where
+pub record TracksWhen {A : Type 0} (test : List Tok → Bool) (l l' : List Tok → A → Type 0) (p p' : Parser A) (C : Faults) (pre post : Mark → Bool) : Type 0 where
   pub passes : (ts : List Tok) (a : A) (rest : List Tok) → test ts ≡ true → p ts ≡ Ok (a, rest) → Passed l l' p' pre post ts a rest
   pub fails : (ts : List Tok) (s : Stop) (rest : List Tok) → test ts ≡ true → p ts ≡ Err (s, rest) → Failed l l' p' C pre ts s rest
 
-pub always : {A : Type 0} {test : List Tok → Bool} {l l' : List Tok → A → Type 0} {p p' : Parser A} {C : Stop → Type 0} {pre post : Mark → Bool} → Tracks l l' p p' C pre post → TracksWhen test l l' p p' C pre post
+pub always : {A : Type 0} {test : List Tok → Bool} {l l' : List Tok → A → Type 0} {p p' : Parser A} {C : Faults} {pre post : Mark → Bool} → Tracks l l' p p' C pre post → TracksWhen test l l' p p' C pre post
 always x = record { passes = λ ts a rest h e. x.passes ts a rest e; fails = λ ts s rest h e. x.fails ts s rest e }
 
-pub along_when : {A : Type 0} {test : List Tok → Bool} {l l' m m' : List Tok → A → Type 0} {p p' : Parser A} {C : Stop → Type 0} {pre post : Mark → Bool}
+pub along_when : {A : Type 0} {test : List Tok → Bool} {l l' m m' : List Tok → A → Type 0} {p p' : Parser A} {C : Faults} {pre post : Mark → Bool}
     → ((us : List Tok) (a : A) → l us a → m us a) → ((us : List Tok) (a : A) → l' us a → m' us a) → TracksWhen test l l' p p' C pre post → TracksWhen test m m' p p' C pre post
 along_when from from' x = record {
   passes = λ ts a rest h e. along_passed from from' (x.passes ts a rest h e);
   fails = λ ts s rest h e. along_failed from from' (x.fails ts s rest h e);
 }
 
-pub gives_when : {A B : Type 0} {test : List Tok → Bool} {l l' : List Tok → A → Type 0} {p p' : Parser A} {C : Stop → Type 0} {pre post : Mark → Bool} (f : A → B) → TracksWhen test l l' p p' C pre post → TracksWhen test (f ⊛ l) (f ⊛ l') (f <$> p) (f <$> p') C pre post
+pub gives_when : {A B : Type 0} {test : List Tok → Bool} {l l' : List Tok → A → Type 0} {p p' : Parser A} {C : Faults} {pre post : Mark → Bool} (f : A → B) → TracksWhen test l l' p p' C pre post → TracksWhen test (f ⊛ l) (f ⊛ l') (f <$> p) (f <$> p') C pre post
 gives_when {l = l} {l'} {p} {p'} {C} {pre} {post} f x = record {
   passes = λ ts b rest h e.
       let o = and_then_ok (p ts) (λ a. read.pure (f a)) (b, rest) e in
@@ -401,7 +408,7 @@ gives_when {l = l} {l'} {p} {p'} {C} {pre} {post} f x = record {
       (and_then_err (p ts) (λ a. read.pure (f a)) (s, rest) e);
 }
 
-pub chained_when : {A B : Type 0} {test : List Tok → Bool} {l l' : List Tok → A → Type 0} {r r' : A → List Tok → B → Type 0} {p p' : Parser A} {q q' : A → Parser B} {C : Stop → Type 0} {pre mid mid' post : Mark → Bool}
+pub chained_when : {A B : Type 0} {test : List Tok → Bool} {l l' : List Tok → A → Type 0} {r r' : A → List Tok → B → Type 0} {p p' : Parser A} {q q' : A → Parser B} {C : Faults} {pre mid mid' post : Mark → Bool}
     → TracksWhen test l l' p p' C pre mid → ((a : A) → Tracks (r a) (r' a) (q a) (q' a) C mid' post) → within mid mid' ≡ true → TracksWhen test (Chain l r) (Chain l' r') (p >>= q) (p' >>= q') C pre post
 chained_when {A} {B} {test} {l} {l'} {r} {r'} {p} {p'} {q} {q'} {C} {pre} {mid} {mid'} {post} x y joins = record {
   passes = λ ts b rest h e.
@@ -415,14 +422,14 @@ chained_when {A} {B} {test} {l} {l'} {r} {r'} {p} {p'} {q} {q'} {C} {pre} {mid} 
       (and_then_err (p ts) q (s, rest) e);
 }
 
-pub followed_when : {A B : Type 0} {test : List Tok → Bool} {l l' : List Tok → A → Type 0} {r r' : List Tok → B → Type 0} {p p' : Parser A} {q q' : Parser B} {C : Stop → Type 0} {pre mid mid' post : Mark → Bool}
+pub followed_when : {A B : Type 0} {test : List Tok → Bool} {l l' : List Tok → A → Type 0} {r r' : List Tok → B → Type 0} {p p' : Parser A} {q q' : Parser B} {C : Faults} {pre mid mid' post : Mark → Bool}
     → TracksWhen test l l' p p' C pre mid → Tracks r r' q q' C mid' post → within mid mid' ≡ true → TracksWhen test (l ⊗ r) (l' ⊗ r') (p <+> q) (p' <+> q') C pre post
 followed_when {l = l} {l'} {r} {r'} x y joins = along_when (from_chain l r) (from_chain l' r') (chained_when x (λ a. gives (λ b. (a, b)) y) joins)
 
 -- one of two by a test of the tokens, which depends on the next token alone once one was read; what fails at once is to fail so whatever stands behind the next token
-module _ {A : Type 0} {l l' r r' : List Tok → A → Type 0} {p p' q q' : Parser A} {C : Stop → Type 0} {pre post : Mark → Bool} (test : List Tok → Bool) (x : TracksWhen test l l' p p' C pre post) (y : TracksWhen (λ ts. not (test ts)) r r' q q' C pre post) (full_l : Full l) (full_r : Full r)
-    (steady : (us rest w : List Tok) → 1 ≤ length us → next rest ≡ next w → test (us ++ rest) ≡ test (us ++ w))
-    (at_once : (s : Stop) (rest w : List Tok) → C s → cond (test rest) (p rest) (q rest) ≡ Err (s, rest) → next rest ≡ next w → cond (test w) (p' w) (q' w) ≡ Err (s, w))
+module _ {A : Type 0} {l l' r r' : List Tok → A → Type 0} {p p' q q' : Parser A} {C : Faults} {pre post : Mark → Bool} (test : List Tok → Bool) (x : TracksWhen test l l' p p' C pre post) (y : TracksWhen (λ ts. not (test ts)) r r' q q' C pre post) (full_l : Full l) (full_r : Full r)
+    (steady : (us rest w : List Tok) → 1 ≤ length us → view rest ≡ view w → test (us ++ rest) ≡ test (us ++ w))
+    (at_once : (s : Stop) (rest w : List Tok) → C.counts s → cond (test rest) (p rest) (q rest) ≡ Err (s, rest) → view rest ≡ view w → cond (test w) (p' w) (q' w) ≡ Err (s, w))
     (sampled : (us : List Tok) × (a : A) × (l ⊕ r) us a × (l' ⊕ r') us a) where
   abbrev one_of : Parser A
   one_of = λ ts. cond (test ts) (p ts) (q ts)
@@ -430,13 +437,13 @@ module _ {A : Type 0} {l l' r r' : List Tok → A → Type 0} {p p' q q' : Parse
   abbrev one_of' : Parser A
   one_of' = λ ts. cond (test ts) (p' ts) (q' ts)
 
-  kept : (b : Bool) (ts us rest w : List Tok) → test ts ≡ b → ts ≡ us ++ rest → 1 ≤ length us → next rest ≡ next w → test (us ++ w) ≡ b
+  kept : (b : Bool) (ts us rest w : List Tok) → test ts ≡ b → ts ≡ us ++ rest → 1 ≤ length us → view rest ≡ view w → test (us ++ w) ≡ b
   kept b ts us rest w h parts some m = sym (steady us rest w some m) ∙ (ap test (sym parts) ∙ h)
 
   not_false : (b : Bool) → b ≡ false → not b ≡ true
   not_false b e = rw e refl
 
-  settled : (b : Bool) (before ts rest : List Tok) (s : Stop) → ts ≡ before ++ rest → one_of ts ≡ Err (s, rest) → test ts ≡ b → C s → (w : List Tok) → next rest ≡ next w → cond b (p' (before ++ w)) (q' (before ++ w)) ≡ Err (s, w) → one_of' (before ++ w) ≡ Err (s, w)
+  settled : (b : Bool) (before ts rest : List Tok) (s : Stop) → ts ≡ before ++ rest → one_of ts ≡ Err (s, rest) → test ts ≡ b → C.counts s → (w : List Tok) → view rest ≡ view w → cond b (p' (before ++ w)) (q' (before ++ w)) ≡ Err (s, w) → one_of' (before ++ w) ≡ Err (s, w)
   settled b [] ts rest s parts e h c w m again = at_once s rest w c (subst (λ z. one_of z ≡ Err (s, rest)) parts e) m
   settled b (t ∷ us) ts rest s parts e h c w m again = rw (kept b ts (t ∷ us) rest w h parts (omega arith) m) again
 
@@ -458,7 +465,7 @@ both l us a (inl h) = h
 both l us a (inr h) = h
 
 -- one of two by the next token, both for one rule
-pub chosen : {A : Type 0} {l l' : List Tok → A → Type 0} {p p' q q' : Parser A} {C : Stop → Type 0} {pre post : Mark → Bool} (test : Mark → Bool)
+pub chosen : {A : Type 0} {l l' : List Tok → A → Type 0} {p p' q q' : Parser A} {C : Faults} {pre post : Mark → Bool} (test : Mark → Bool)
     → TracksWhen (λ ts. test (next ts)) l l' p p' C pre post → Tracks l l' q q' C pre post → Tracks l l' (read.choose test p q) (read.choose test p' q') C pre post
 chosen {A} {l} {l'} {p} {p'} {q} {q'} {C} {pre} {post} test x y = record { passes = passes_of; fails = fails_of; sample = y.sample }
   where
@@ -474,7 +481,7 @@ chosen {A} {l} {l'} {p} {p'} {q} {q'} {C} {pre} {post} test x y = record { passe
         (λ h. let f = y.fails ts s rest h.1 in along_failed (both l) (both l') (right_failed (λ u. test (next u)) p' f (λ c w m. rw (told test false ts f.before rest w f.parts h.0 m) (f.again c w m))))
         (if_is (test (next ts)) (p ts) (q ts) (Err (s, rest)) e)
 
-pub either : {A : Type 0} {l l' r r' : List Tok → A → Type 0} {p p' q q' : Parser A} {C : Stop → Type 0} {pre post : Mark → Bool} (test : Mark → Bool)
+pub either : {A : Type 0} {l l' r r' : List Tok → A → Type 0} {p p' q q' : Parser A} {C : Faults} {pre post : Mark → Bool} (test : Mark → Bool)
     → Tracks l l' p p' C pre post → Tracks r r' q q' C pre post → Tracks (l ⊕ r) (l' ⊕ r') (read.choose test p q) (read.choose test p' q') C pre post
 either test x y = chosen test (along_when (λ us a h. inl h) (λ us a h. inl h) (always x)) (along (λ us a h. inr h) (λ us a h. inr h) y)
 
@@ -493,7 +500,7 @@ empty_passed v pre post keeps ts a rest is left = record {
   clean = λ m h. (tt, within_at pre post keeps m h);
 }
 
-pub nothing : {A : Type 0} (v : A) (C : Stop → Type 0) (pre post : Mark → Bool) → within pre post ≡ true → Tracks (empty v) (empty v) (read.pure v) (read.pure v) C pre post
+pub nothing : {A : Type 0} (v : A) (C : Faults) (pre post : Mark → Bool) → within pre post ≡ true → Tracks (empty v) (empty v) (read.pure v) (read.pure v) C pre post
 nothing v C pre post keeps = record {
   passes = λ ts a rest e. let pair = Ok-value e in empty_passed v pre post keeps ts a rest (ap (λ z. z.0) pair) (ap (λ z. z.1) pair);
   fails = λ ts s rest e. absurd (Ok-Err e);
@@ -504,7 +511,7 @@ to_optional : {A : Type 0} (l : List Tok → A → Type 0) (us : List Tok) (o : 
 to_optional l us o (inl h) = subst (λ z. rule.optional l us z) h.2 h.1
 to_optional l us o (inr h) = subst (λ z. rule.optional l us z) h.1 h.0
 
-pub maybe : {A : Type 0} {l l' : List Tok → A → Type 0} {p p' : Parser A} {C : Stop → Type 0} {pre post : Mark → Bool} (test : Mark → Bool) → within pre post ≡ true
+pub maybe : {A : Type 0} {l l' : List Tok → A → Type 0} {p p' : Parser A} {C : Faults} {pre post : Mark → Bool} (test : Mark → Bool) → within pre post ≡ true
     → Tracks l l' p p' C pre post → Tracks (rule.optional l) (rule.optional l') (read.optional test p) (read.optional test p') C pre post
 maybe {l = l} {l' = l'} {C = C} {pre = pre} {post = post} test keeps x = along (to_optional l) (to_optional l') (either test (gives Some x) (nothing None C pre post keeps))
 
@@ -514,7 +521,7 @@ to_many : {A : Type 0} (l : List Tok → A → Type 0) (us : List Tok) (xs : Lis
 to_many l us xs (inl h) = subst (λ z. rule.many l us z) h.right.2 (h.first, h.second, h.parts, h.left, h.right.1)
 to_many l us xs (inr h) = subst (λ z. rule.many l us z) h.1 h.0
 
-module _ {A : Type 0} (l l' : List Tok → A → Type 0) (p p' : Parser A) (C : Stop → Type 0) (pre : Mark → Bool) (test : Mark → Bool) (x : Tracks l l' p p' C pre pre) (none : test k.End ≡ false) (full : Full l) (shrinks : Shrinks p') where
+module _ {A : Type 0} (l l' : List Tok → A → Type 0) (p p' : Parser A) (C : Faults) (pre : Mark → Bool) (test : Mark → Bool) (x : Tracks l l' p p' C pre pre) (none : test k.End ≡ false) (full : Full l) (shrinks : Shrinks p') where
   abbrev one_step : Parser (List A)
   one_step = p' >>= (λ a. (λ more. a ∷ more) <$> read.many test p')
 
@@ -569,38 +576,38 @@ module _ {A : Type 0} (l l' : List Tok → A → Type 0) (p p' : Parser A) (C : 
 
 -- ---- forms made of these
 
-pub enclosed : {A : Type 0} {l l' : List Tok → A → Type 0} {p p' : Parser A} {C : Stop → Type 0} → Tracks l l' p p' C unstarred unstarred → Tracks (rule.enclosed l) (rule.enclosed l') (read.enclosed p) (read.enclosed p') C any unstarred
+pub enclosed : {A : Type 0} {l l' : List Tok → A → Type 0} {p p' : Parser A} {C : Faults} → Tracks l l' p p' C unstarred unstarred → Tracks (rule.enclosed l) (rule.enclosed l') (read.enclosed p) (read.enclosed p') C any unstarred
 unfolding same
 enclosed {C = C} x = after k.Open refl refl refl refl (gives (λ q. q.0) (followed x (token C (is k.Close) unstarred k.Close refl refl refl refl) refl))
 
-pub separated : {A : Type 0} {l l' : List Tok → A → Type 0} {p p' : Parser A} {C : Stop → Type 0} {keeps : Mark → Bool} (wanted : Mark) → is wanted k.End ≡ false → apart (is wanted) (is k.Number) ≡ true → within (is wanted) keeps ≡ true → is wanted wanted ≡ true
+pub separated : {A : Type 0} {l l' : List Tok → A → Type 0} {p p' : Parser A} {C : Faults} {keeps : Mark → Bool} (wanted : Mark) → is wanted k.End ≡ false → apart (is wanted) (is k.Number) ≡ true → within (is wanted) keeps ≡ true → is wanted wanted ≡ true
     → Shrinks (read.after wanted p') → Tracks l l' p p' C keeps keeps → Tracks (rule.separated wanted l) (rule.separated wanted l') (read.separated wanted p) (read.separated wanted p') C keeps keeps
 separated {l = l} {l'} {p} {p'} {C} {keeps} wanted none plain leaves self shrinks x = followed x
     (repeated (rule.after wanted l) (rule.after wanted l') (read.after wanted p) (read.after wanted p') C keeps (is wanted) (weaker keeps keeps (after wanted none plain leaves self x) (all_within keeps) (within_self keeps)) none
     (Full-after wanted l) shrinks)
     (within_self keeps)
 
-pub list_of : {A : Type 0} {l l' : List Tok → A → Type 0} {p p' : Parser A} {C : Stop → Type 0} {keeps : Mark → Bool} (wanted : Mark) → is wanted k.End ≡ false → apart (is wanted) (is k.Number) ≡ true → within (is wanted) keeps ≡ true → is wanted wanted ≡ true
+pub list_of : {A : Type 0} {l l' : List Tok → A → Type 0} {p p' : Parser A} {C : Faults} {keeps : Mark → Bool} (wanted : Mark) → is wanted k.End ≡ false → apart (is wanted) (is k.Number) ≡ true → within (is wanted) keeps ≡ true → is wanted wanted ≡ true
     → Shrinks (read.after wanted p') → Tracks l l' p p' C keeps keeps → Tracks (rule.list_of wanted l) (rule.list_of wanted l') (read.list_of wanted p) (read.list_of wanted p') C keeps keeps
 list_of wanted none plain leaves self shrinks x = gives (λ p. p.0 ∷ p.1) (separated wanted none plain leaves self shrinks x)
 
 -- what doesn't mind a `*` before it doesn't mind anything else
-pub plainly : {A : Type 0} {l l' : List Tok → A → Type 0} {p p' : Parser A} {C : Stop → Type 0} → Tracks l l' p p' C any unstarred → Tracks l l' p p' C unstarred unstarred
+pub plainly : {A : Type 0} {l l' : List Tok → A → Type 0} {p p' : Parser A} {C : Faults} → Tracks l l' p p' C any unstarred → Tracks l l' p p' C unstarred unstarred
 plainly x = weaker unstarred unstarred x (all_within unstarred) (within_self unstarred)
 
 -- ---- what doesn't fail at once
 
 -- before such a token it reads one at least
-pub record Moves {A : Type 0} (p : Parser A) (C : Stop → Type 0) (begins : Mark → Bool) : Type 0 where
-  pub goes : (ts : List Tok) (s : Stop) (rest : List Tok) → begins (next ts) ≡ true → C s → p ts ≡ Err (s, rest) → length rest < length ts
+pub record Moves {A : Type 0} (p : Parser A) (C : Faults) (begins : Mark → Bool) : Type 0 where
+  pub goes : (ts : List Tok) (s : Stop) (rest : List Tok) → begins (next ts) ≡ true → C.counts s → p ts ≡ Err (s, rest) → length rest < length ts
 
-pub moves_token : (C : Stop → Type 0) (p : Mark → Bool) → Moves (read.token p) C p
+pub moves_token : (C : Faults) (p : Mark → Bool) → Moves (read.token p) C p
 moves_token C p = record { goes = λ ts s rest h c e. absurd (Ok-Err (rw h at e)) }
 
-pub moves_number : {C : Stop → Type 0} (w : ℕ → Bool) → (C stop.NumberTooLarge → ⊥) → Moves (read.number w) C (is k.Number)
-moves_number {C} w never = record {
+pub moves_number : {C : Faults} (w : ℕ → Bool) → Moves (read.number w) C (is k.Number)
+moves_number {C} w = record {
   goes = λ ts s rest h c e. ⊎_elim
-      (λ i. ⊎_elim (λ j. absurd (Ok-Err j.1)) (λ j. absurd (never (subst C (sym (ap (λ z. z.0) (Err-value j.1))) c))) (if_is (w (head ts).number) (Ok (head ts, behind ts)) (Err (stop.NumberTooLarge, ts)) (Err (s, rest)) i.1))
+      (λ i. ⊎_elim (λ j. absurd (Ok-Err j.1)) (λ j. absurd (C.no_number (subst C.counts (sym (ap (λ z. z.0) (Err-value j.1))) c))) (if_is (w (head ts).number) (Ok (head ts, behind ts)) (Err (stop.NumberTooLarge, ts)) (Err (s, rest)) i.1))
       (λ i. absurd (no_both h i.0))
       (if_is (is k.Number (next ts)) _ (Err (stop.Syntax, ts)) (Err (s, rest)) e);
 }
@@ -608,7 +615,7 @@ moves_number {C} w never = record {
     no_both : {b : Bool} → b ≡ true → b ≡ false → ⊥
     no_both x y = cc
 
-pub moves_chain : {A B : Type 0} {p : Parser A} {q : A → Parser B} {C : Stop → Type 0} {b : Mark → Bool} → Moves p C b → Shrinks p → ((a : A) (ts : List Tok) (s : Stop) (rest : List Tok) → q a ts ≡ Err (s, rest) → length rest ≤ length ts) → Moves (p >>= q) C b
+pub moves_chain : {A B : Type 0} {p : Parser A} {q : A → Parser B} {C : Faults} {b : Mark → Bool} → Moves p C b → Shrinks p → ((a : A) (ts : List Tok) (s : Stop) (rest : List Tok) → q a ts ≡ Err (s, rest) → length rest ≤ length ts) → Moves (p >>= q) C b
 moves_chain {p = p} {q} moves shrinks falls = record {
   goes = λ ts s rest h c e. ⊎_elim
       (λ i. moves.goes ts s rest h c i)
@@ -618,7 +625,7 @@ moves_chain {p = p} {q} moves shrinks falls = record {
       (and_then_err (p ts) q (s, rest) e);
 }
 
-pub moves_gives : {A B : Type 0} {p : Parser A} {C : Stop → Type 0} {b : Mark → Bool} (f : A → B) → Moves p C b → Moves (f <$> p) C b
+pub moves_gives : {A B : Type 0} {p : Parser A} {C : Faults} {b : Mark → Bool} (f : A → B) → Moves p C b → Moves (f <$> p) C b
 moves_gives {p = p} f moves = record {
   goes = λ ts s rest h c e. ⊎_elim
       (λ i. moves.goes ts s rest h c i)
@@ -626,22 +633,22 @@ moves_gives {p = p} f moves = record {
       (and_then_err (p ts) (λ a. read.pure (f a)) (s, rest) e);
 }
 
-pub moves_then : {A B : Type 0} {p : Parser A} {q : Parser B} {C : Stop → Type 0} {b : Mark → Bool} → Moves p C b → Shrinks p → ((ts : List Tok) (s : Stop) (rest : List Tok) → q ts ≡ Err (s, rest) → length rest ≤ length ts) → Moves (p <+> q) C b
+pub moves_then : {A B : Type 0} {p : Parser A} {q : Parser B} {C : Faults} {b : Mark → Bool} → Moves p C b → Shrinks p → ((ts : List Tok) (s : Stop) (rest : List Tok) → q ts ≡ Err (s, rest) → length rest ≤ length ts) → Moves (p <+> q) C b
 moves_then {A} {B} {p} {q} moves shrinks falls = moves_chain moves shrinks (λ a ts s rest e. ⊎_elim
     (λ i. falls ts s rest i)
     (λ i. absurd (Ok-Err i.3))
     (and_then_err (q ts) (λ b. read.pure (a, b)) (s, rest) e))
 
-pub moves_right : {A : Type 0} {q : Parser A} {C : Stop → Type 0} {b : Mark → Bool} (test : Mark → Bool) (p : Parser A) → apart b test ≡ true → Moves q C b → Moves (read.choose test p q) C b
+pub moves_right : {A : Type 0} {q : Parser A} {C : Faults} {b : Mark → Bool} (test : Mark → Bool) (p : Parser A) → apart b test ≡ true → Moves q C b → Moves (read.choose test p q) C b
 moves_right {b = b} test p fails moves = record { goes = λ ts s rest h c e. moves.goes ts s rest h c (rw (apart_at b test fails (next ts) h) at e) }
 
-pub falls : {A : Type 0} {l l' : List Tok → A → Type 0} {p p' : Parser A} {C : Stop → Type 0} {pre post : Mark → Bool} → Tracks l l' p p' C pre post → (ts : List Tok) (s : Stop) (rest : List Tok) → p ts ≡ Err (s, rest) → length rest ≤ length ts
+pub falls : {A : Type 0} {l l' : List Tok → A → Type 0} {p p' : Parser A} {C : Faults} {pre post : Mark → Bool} → Tracks l l' p p' C pre post → (ts : List Tok) (s : Stop) (rest : List Tok) → p ts ≡ Err (s, rest) → length rest ≤ length ts
 falls x ts s rest e =
     let f = x.fails ts s rest e in
     let both : length ts ≡ length f.before + length rest = ap length f.parts ∙ length-append f.before rest in
     omega arith
 
-pub shrinks_by : {A : Type 0} {l l' : List Tok → A → Type 0} {p p' : Parser A} {C : Stop → Type 0} {pre post : Mark → Bool} → Tracks l l' p p' C pre post → Full l → Shrinks p
+pub shrinks_by : {A : Type 0} {l l' : List Tok → A → Type 0} {p p' : Parser A} {C : Faults} {pre post : Mark → Bool} → Tracks l l' p p' C pre post → Full l → Shrinks p
 shrinks_by x full ts a rest e =
     let f = x.passes ts a rest e in
     let one = full f.us a f.spelled in
@@ -653,7 +660,7 @@ nothing_before [] rest e = refl
 nothing_before (t ∷ us) rest e = let longer : length rest ≡ length (t ∷ us) + length rest = ap length e ∙ length-append (t ∷ us) rest in absurd (omega arith)
 
 -- a fault at once doesn't depend on what stands behind the next token
-pub again_at_once : {A : Type 0} {l l' : List Tok → A → Type 0} {p p' : Parser A} {C : Stop → Type 0} {pre post : Mark → Bool} → Tracks l l' p p' C pre post → (s : Stop) (rest w : List Tok) → C s → p rest ≡ Err (s, rest) → next rest ≡ next w → p' w ≡ Err (s, w)
+pub again_at_once : {A : Type 0} {l l' : List Tok → A → Type 0} {p p' : Parser A} {C : Faults} {pre post : Mark → Bool} → Tracks l l' p p' C pre post → (s : Stop) (rest w : List Tok) → C.counts s → p rest ≡ Err (s, rest) → view rest ≡ view w → p' w ≡ Err (s, w)
 again_at_once {p' = p'} x s rest w c e m =
     let f = x.fails rest s rest e in
     subst (λ z. p' (z ++ w) ≡ Err (s, w)) (nothing_before f.before rest f.parts) (f.again c w m)
