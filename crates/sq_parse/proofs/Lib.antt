@@ -19,3 +19,4 @@ pub mod Tracks
 pub mod OperandsTrack
 pub mod ItemsTrack
 pub mod PredicatesTrack
+pub mod ConditionsTrack

@@ -664,3 +664,31 @@ pub again_at_once : {A : Type 0} {l l' : List Tok → A → Type 0} {p p' : Pars
 again_at_once {p' = p'} x s rest w c e m =
     let f = x.fails rest s rest e in
     subst (λ z. p' (z ++ w) ≡ Err (s, w)) (nothing_before f.before rest f.parts) (f.again c w m)
+
+-- ---- what is refused
+
+-- before such a token all is refused, which the wide rule can go on with
+pub refused : {A : Type 0} {l l' : List Tok → A → Type 0} {p' : Parser A} {C : Faults} {pre post : Mark → Bool} (test : Mark → Bool) (s : Stop) → test k.End ≡ false → (s ≡ stop.NumberTooLarge → ⊥)
+    → ((us : List Tok) × (a : A) × l us a) → (C.owed s → (t : Tok) → test t.mark ≡ true → (us : List Tok) × (a : A) × l' (t ∷ us) a)
+    → (C.counts s → (w : List Tok) → test (next w) ≡ true → p' w ≡ Err (s, w)) → TracksWhen (λ ts. test (next ts)) l l' (read.refuse s) p' C pre post
+refused {A} {l} {l'} {p'} {C} {pre} {post} test s none other sampled goes_on again = record {
+  passes = λ ts a rest h e. absurd (Err-Ok e);
+  fails = λ ts z rest h e.
+      let pair = Err-value e in
+      subst (λ (v : Stop × List Tok). Failed l l' p' C pre ts v.0 v.1) pair (at_once ts h);
+}
+  where
+    at_once : (ts : List Tok) → test (next ts) ≡ true → Failed l l' p' C pre ts s ts
+    at_once [] h = absurd (no_both h none)
+      where
+        no_both : {b : Bool} → b ≡ true → b ≡ false → ⊥
+        no_both x y = cc
+    at_once (t ∷ ts) h = record {
+      before = [];
+      parts = refl;
+      begun = sampled;
+      further = λ o. let y = goes_on o t h in record { token = t; more = ts; there = refl; us = y.0; value = y.1; spelled = y.2 };
+      again = λ c w e. again c w (ap test (sym (next_seen (t ∷ ts) w e)) ∙ h);
+      clean = λ left _. tt;
+      large = λ left _ too. absurd (other too);
+    }
