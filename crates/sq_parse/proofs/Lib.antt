@@ -20,3 +20,4 @@ pub mod OperandsTrack
 pub mod ItemsTrack
 pub mod PredicatesTrack
 pub mod ConditionsTrack
+pub mod StatementsTrack

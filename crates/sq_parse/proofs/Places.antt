@@ -57,6 +57,9 @@ view_same (t ∷ us) v w e = refl
 pub next_seen : (v w : List Tok) → view v ≡ view w → next v ≡ next w
 next_seen v w e = ap (λ z. z.0) e
 
+pub done_same : (us v w : List Tok) → view v ≡ view w → done (us ++ v) ≡ done (us ++ w)
+done_same us v w e = ap (λ z. z.1) (view_same us v w e)
+
 pub Clean-append : (left : Mark) (us vs : List Tok) (right : Mark) → Clean left us (first vs right) → Clean (last left us) vs right → Clean left (us ++ vs) right
 Clean-append left [] vs right x y = y
 Clean-append left (t ∷ us) vs right x y = (rw (first-append us vs right) x.0, Clean-append t.mark us vs right x.1 y)

@@ -464,22 +464,34 @@ both : {A : Type 0} (l : List Tok → A → Type 0) (us : List Tok) (a : A) → 
 both l us a (inl h) = h
 both l us a (inr h) = h
 
+-- one of two by a test of what comes next, both for one rule
+pub chosen_by : {A : Type 0} {l l' : List Tok → A → Type 0} {p p' q q' : Parser A} {C : Faults} {pre post : Mark → Bool} (test : List Tok → Bool) → ((us v w : List Tok) → view v ≡ view w → test (us ++ v) ≡ test (us ++ w))
+    → TracksWhen test l l' p p' C pre post → TracksWhen (λ ts. not (test ts)) l l' q q' C pre post → (us : List Tok) × (a : A) × l us a × l' us a
+    → Tracks l l' (λ ts. cond (test ts) (p ts) (q ts)) (λ ts. cond (test ts) (p' ts) (q' ts)) C pre post
+chosen_by {A} {l} {l'} {p} {p'} {q} {q'} {C} {pre} {post} test steady x y sampled = record { passes = passes_of; fails = fails_of; sample = sampled }
+  where
+    kept : (b : Bool) (ts us rest w : List Tok) → ts ≡ us ++ rest → test ts ≡ b → view rest ≡ view w → test (us ++ w) ≡ b
+    kept b ts us rest w parts e m = sym (steady us rest w m) ∙ (ap test (sym parts) ∙ e)
+
+    denied : (b : Bool) → b ≡ false → not b ≡ true
+    denied b e = rw e refl
+
+    passes_of : (ts : List Tok) (a : A) (rest : List Tok) → cond (test ts) (p ts) (q ts) ≡ Ok (a, rest) → Passed l l' (λ u. cond (test u) (p' u) (q' u)) pre post ts a rest
+    passes_of ts a rest e = ⊎_elim
+        (λ h. let f = x.passes ts a rest h.0 h.1 in along_passed (both l) (both l') (left_passed test q' f (λ w m. kept true ts f.us rest w f.parts h.0 m)))
+        (λ h. let f = y.passes ts a rest (denied (test ts) h.0) h.1 in along_passed (both l) (both l') (right_passed test p' f (λ w m. kept false ts f.us rest w f.parts h.0 m)))
+        (if_is (test ts) (p ts) (q ts) (Ok (a, rest)) e)
+
+    fails_of : (ts : List Tok) (s : Stop) (rest : List Tok) → cond (test ts) (p ts) (q ts) ≡ Err (s, rest) → Failed l l' (λ u. cond (test u) (p' u) (q' u)) C pre ts s rest
+    fails_of ts s rest e = ⊎_elim
+        (λ h. let f = x.fails ts s rest h.0 h.1 in along_failed (both l) (both l') (left_failed test q' f (λ c w m. rw (kept true ts f.before rest w f.parts h.0 m) (f.again c w m))))
+        (λ h. let f = y.fails ts s rest (denied (test ts) h.0) h.1 in along_failed (both l) (both l') (right_failed test p' f (λ c w m. rw (kept false ts f.before rest w f.parts h.0 m) (f.again c w m))))
+        (if_is (test ts) (p ts) (q ts) (Err (s, rest)) e)
+
 -- one of two by the next token, both for one rule
 pub chosen : {A : Type 0} {l l' : List Tok → A → Type 0} {p p' q q' : Parser A} {C : Faults} {pre post : Mark → Bool} (test : Mark → Bool)
     → TracksWhen (λ ts. test (next ts)) l l' p p' C pre post → Tracks l l' q q' C pre post → Tracks l l' (read.choose test p q) (read.choose test p' q') C pre post
-chosen {A} {l} {l'} {p} {p'} {q} {q'} {C} {pre} {post} test x y = record { passes = passes_of; fails = fails_of; sample = y.sample }
-  where
-    passes_of : (ts : List Tok) (a : A) (rest : List Tok) → read.choose test p q ts ≡ Ok (a, rest) → Passed l l' (read.choose test p' q') pre post ts a rest
-    passes_of ts a rest e = ⊎_elim
-        (λ h. let f = x.passes ts a rest h.0 h.1 in along_passed (both l) (both l') (left_passed (λ u. test (next u)) q' f (λ w m. told test true ts f.us rest w f.parts h.0 m)))
-        (λ h. let f = y.passes ts a rest h.1 in along_passed (both l) (both l') (right_passed (λ u. test (next u)) p' f (λ w m. told test false ts f.us rest w f.parts h.0 m)))
-        (if_is (test (next ts)) (p ts) (q ts) (Ok (a, rest)) e)
-
-    fails_of : (ts : List Tok) (s : Stop) (rest : List Tok) → read.choose test p q ts ≡ Err (s, rest) → Failed l l' (read.choose test p' q') C pre ts s rest
-    fails_of ts s rest e = ⊎_elim
-        (λ h. let f = x.fails ts s rest h.0 h.1 in along_failed (both l) (both l') (left_failed (λ u. test (next u)) q' f (λ c w m. rw (told test true ts f.before rest w f.parts h.0 m) (f.again c w m))))
-        (λ h. let f = y.fails ts s rest h.1 in along_failed (both l) (both l') (right_failed (λ u. test (next u)) p' f (λ c w m. rw (told test false ts f.before rest w f.parts h.0 m) (f.again c w m))))
-        (if_is (test (next ts)) (p ts) (q ts) (Err (s, rest)) e)
+chosen test x y = chosen_by (λ ts. test (next ts)) (λ us v w m. ap test (next_same us v w (next_seen v w m))) x (always y) y.sample
 
 pub either : {A : Type 0} {l l' r r' : List Tok → A → Type 0} {p p' q q' : Parser A} {C : Faults} {pre post : Mark → Bool} (test : Mark → Bool)
     → Tracks l l' p p' C pre post → Tracks r r' q q' C pre post → Tracks (l ⊕ r) (l' ⊕ r') (read.choose test p q) (read.choose test p' q') C pre post
@@ -487,7 +499,7 @@ either test x y = chosen test (along_when (λ us a h. inl h) (λ us a h. inl h) 
 
 -- ---- one, or nothing
 
-abbrev empty : {A : Type 0} → A → List Tok → A → Type 0
+abbrev pub empty : {A : Type 0} → A → List Tok → A → Type 0
 empty v us a = (us ≡ []) × (v ≡ a)
 
 empty_passed : {A : Type 0} (v : A) (pre post : Mark → Bool) → within pre post ≡ true → (ts : List Tok) (a : A) (rest : List Tok) → v ≡ a → ts ≡ rest → Passed (empty v) (empty v) (read.pure v) pre post ts a rest
