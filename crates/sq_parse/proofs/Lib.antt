@@ -21,3 +21,4 @@ pub mod ItemsTrack
 pub mod PredicatesTrack
 pub mod ConditionsTrack
 pub mod StatementsTrack
+pub mod ScriptsTrack
