@@ -22,3 +22,4 @@ pub mod PredicatesTrack
 pub mod ConditionsTrack
 pub mod StatementsTrack
 pub mod ScriptsTrack
+pub mod ScriptsFail

@@ -103,6 +103,10 @@ no_select : (d : ℕ) (w : List Tok) → is k.Select (next w) ≡ false → read
 unfolding read.statement
 no_select d w e = rw e refl
 
+-- a script of at most one statement more
+abbrev pub Fits : ℕ → ℕ → List Tok → Script → Type 0
+Fits d n us tree = g.script shipped d us tree × (length tree.statements ≤ suc n)
+
 module _ (C : Faults) (d d' e : ℕ) (a : d ≤ d') (b : d ≤ e) (deep : C.counts stop.TooDeep → d ≡ d') (deeper : C.owed stop.TooDeep → d < e) where
   abbrev One : List Tok → Statement → Type 0
   One = g.statement shipped d
@@ -219,9 +223,6 @@ module _ (C : Faults) (d d' e : ℕ) (a : d ≤ d') (b : d ≤ e) (deep : C.coun
   abbrev Script_by : (List Tok → Statement → Type 0) → (List Tok → List Statement → Type 0) → List Tok → Script → Type 0
   Script_by l r = Chain l (λ s. Chain r (λ xs. empty (record { statements = s ∷ xs })))
 
-  abbrev pub Fits : ℕ → List Tok → Script → Type 0
-  Fits n us tree = g.script shipped d us tree × (length tree.statements ≤ suc n)
-
   as_script : (us : List Tok) (tree : Script) → Script_by One' (Tail One') us tree → g.script unlimited e us tree
   as_script us tree h =
       let r = h.right in
@@ -238,7 +239,7 @@ module _ (C : Faults) (d d' e : ℕ) (a : d ≤ d') (b : d ≤ e) (deep : C.coun
         last.1,
       )
 
-  as_few : (n : ℕ) (us : List Tok) (tree : Script) → Script_by One (Few One n) us tree → Fits n us tree
+  as_few : (n : ℕ) (us : List Tok) (tree : Script) → Script_by One (Few One n) us tree → Fits d n us tree
   as_few n us tree h =
       let r = h.right in
       let t = r.left.0 in
@@ -257,6 +258,6 @@ module _ (C : Faults) (d d' e : ℕ) (a : d ≤ d') (b : d ≤ e) (deep : C.coun
         subst (λ (z : Script). length z.statements ≤ suc n) last.1 (let fits : length r.between ≤ n = r.left.1 in omega arith),
       )
 
-  pub script : (n n' : ℕ) → n ≤ n' → (C.counts stop.TooManyStatements → n ≡ n') → Tracks (Fits n) (g.script unlimited e) (read.script shipped d n) (read.script unlimited d' n') C any unstarred
+  pub script : (n n' : ℕ) → n ≤ n' → (C.counts stop.TooManyStatements → n ≡ n') → Tracks (Fits d n) (g.script unlimited e) (read.script shipped d n) (read.script unlimited d' n') C any unstarred
   unfolding read.script
   script n n' few many = along (as_few n) as_script (chained one (λ s. chained (tail n n' few many) (λ xs. end (record { statements = s ∷ xs })) (within_self unstarred)) (within_self unstarred))
