@@ -273,7 +273,7 @@ module _ {A : Type 0} (l : List Tok → A → Type 0) (p : Parser A) (s f test f
 
 -- ---- a number
 
-no_number : is k.Number k.End ≡ false
+pub no_number : is k.Number k.End ≡ false
 unfolding same
 no_number = refl
 

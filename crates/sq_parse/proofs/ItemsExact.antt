@@ -38,13 +38,13 @@ source = gives (λ p. source_of p.0 p.1) (followed name optional_alias refl)
 
 -- ---- items, told by what stands behind their first name
 
-abbrev column_rest : ColRef → List Tok → Item → Type 0
+abbrev pub column_rest : ColRef → List Tok → Item → Type 0
 column_rest c = (λ a. shown.Col c a) ⊛ rule.optional g.alias
 
-abbrev dot_rest : Name → List Tok → Item → Type 0
+abbrev pub dot_rest : Name → List Tok → Item → Type 0
 dot_rest n = (λ _. shown.AllOf n) ⊛ rule.mark k.Star ⊕ Chain g.name (λ m. column_rest (column_of n (Some m)))
 
-abbrev item_by_name : List Tok → Item → Type 0
+abbrev pub item_by_name : List Tok → Item → Type 0
 item_by_name = Chain g.name (λ n. rule.after k.Dot (dot_rest n) ⊕ column_rest (column_of n None))
 
 to_column : (us first second cf cs : List Tok) (n : Name) (o : Option Name) (c : ColRef) (al : Option Name) (a : Item) → us ≡ first ++ second → first ≡ cf ++ cs → g.name cf n
@@ -141,7 +141,7 @@ from_dot us first second df ds n dot b a parts left inner dotted (inr e) is =
       al.2 ∙ is,
     )
 
-from_rest : (us first second : List Tok) (n : Name) (a : Item) → us ≡ first ++ second → g.name first n → (rule.after k.Dot (dot_rest n) ⊕ column_rest (column_of n None)) second a → g.item us a
+pub from_rest : (us first second : List Tok) (n : Name) (a : Item) → us ≡ first ++ second → g.name first n → (rule.after k.Dot (dot_rest n) ⊕ column_rest (column_of n None)) second a → g.item us a
 from_rest us first second n a parts left (inl d) = from_dot us first second d.1.first d.1.second n d.0.0 d.0.1 a parts left d.1.parts d.1.left d.1.right d.2
 from_rest us first second n a parts left (inr c) =
     inr (

@@ -14,5 +14,14 @@ pub mod Shrinking
 pub mod Steps
 pub mod ParseLemmas
 pub mod Wider
+pub mod Places
+pub mod Tracks
+pub mod OperandsTrack
+pub mod ItemsTrack
+pub mod PredicatesTrack
+pub mod ConditionsTrack
+pub mod StatementsTrack
+pub mod ScriptsTrack
+pub mod ScriptsFail
 pub mod PlaceLemmas
 pub mod FirstFault

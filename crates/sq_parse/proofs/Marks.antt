@@ -108,3 +108,10 @@ or_true false = refl
 
 pub all_within : (p : Mark → Bool) → within p (λ _. true) ≡ true
 all_within p = each_true (λ m. not (p m) || true) (λ m. or_true (not (p m))) marks
+
+or_not : (a : Bool) → (not a || a) ≡ true
+or_not true = refl
+or_not false = refl
+
+pub within_self : (p : Mark → Bool) → within p p ≡ true
+within_self p = each_true (λ m. not (p m) || p m) (λ m. or_not (p m)) marks

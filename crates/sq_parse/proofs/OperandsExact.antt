@@ -93,10 +93,10 @@ module _ (limits : Limits) where
   pub Full-signed : Full (g.signed_term limits)
   Full-signed = Full-gives (λ p. signed p.0 p.1) (Full-left (rule.token is_sign) (g.term limits) (Full-token is_sign))
 
-  abbrev plain_sum : Parser Operand
+  abbrev pub plain_sum : Parser Operand
   plain_sum = (λ p. sum_of p.0 p.1.0 p.1.1) <$> (reading.optional is_sign (reading.token is_sign) <+> (read.term limits <+> reading.many is_sign (read.signed_term limits)))
 
-  sum_alike : (ts : List Tok) (b : Bool) → is_sign (next ts) ≡ b → read.sum limits ts ≡ plain_sum ts
+  pub sum_alike : (ts : List Tok) (b : Bool) → is_sign (next ts) ≡ b → read.sum limits ts ≡ plain_sum ts
   unfolding read.sum read.sum_from
   sum_alike ts true e = rw e (nest (read.term limits (behind ts)) (reading.many is_sign (read.signed_term limits)) (Some (head ts)) sum_of)
   sum_alike ts false e = rw e (nest (read.term limits ts) (reading.many is_sign (read.signed_term limits)) None sum_of)

@@ -107,25 +107,25 @@ module _ (limits : Limits) where
 
   -- ---- predicates with a subject, told by what stands behind it
 
-  abbrev compared_rest : Operand → List Tok → Tree → Type 0
+  abbrev pub compared_rest : Operand → List Tok → Tree → Type 0
   compared_rest x = (λ p. t.Compare (begin_of x) x (comparison_by p.0.mark) p.1) ⊛ (rule.token is_comparison ⊗ g.operand limits)
 
-  abbrev null_rest : Operand → List Tok → Tree → Type 0
+  abbrev pub null_rest : Operand → List Tok → Tree → Type 0
   null_rest x = (λ p. t.IsNull (begin_of x) (is_some p.0) x) ⊛ rule.after k.Is (rule.optional (rule.mark k.Not) ⊗ rule.mark k.Null)
 
-  abbrev between_rest : Operand → Option Tok → List Tok → Tree → Type 0
+  abbrev pub between_rest : Operand → Option Tok → List Tok → Tree → Type 0
   between_rest x n = (λ p. t.Between (begin_of x) (is_some n) x p.0 p.1) ⊛ (rule.after k.Between (g.operand limits) ⊗ rule.after k.And (g.operand limits))
 
-  abbrev within_rest : Operand → Option Tok → List Tok → Tree → Type 0
+  abbrev pub within_rest : Operand → Option Tok → List Tok → Tree → Type 0
   within_rest x n = (λ p. t.Within (begin_of x) (is_some n) x p) ⊛ rule.after k.In (rule.enclosed (rule.list_of k.Comma (g.operand limits)))
 
-  abbrev ranged_rest : Operand → List Tok → Tree → Type 0
+  abbrev pub ranged_rest : Operand → List Tok → Tree → Type 0
   ranged_rest x = Chain (rule.optional (rule.mark k.Not)) (λ n. between_rest x n ⊕ within_rest x n)
 
-  abbrev subject_rest : Operand → List Tok → Tree → Type 0
+  abbrev pub subject_rest : Operand → List Tok → Tree → Type 0
   subject_rest x = compared_rest x ⊕ null_rest x ⊕ ranged_rest x
 
-  abbrev with_subject : List Tok → Tree → Type 0
+  abbrev pub with_subject : List Tok → Tree → Type 0
   with_subject = Chain (g.operand limits) subject_rest
 
   to_rest : (us : List Tok) (a : Tree) → g.predicate limits us a → (g.call limits ⊕ with_subject) us a
@@ -167,7 +167,7 @@ module _ (limits : Limits) where
       inr (inr (inr (inl ((x, c.0), record { first = first; second = second; parts = parts; left = left; right = c.1 }, c.2))))
   from_subject us first second x a parts left (inr (inr c)) = from_ranged us first second x a parts left c.first c.second c.between c.parts c.left c.right
 
-  from_rest : (us : List Tok) (a : Tree) → (g.call limits ⊕ with_subject) us a → g.predicate limits us a
+  pub from_rest : (us : List Tok) (a : Tree) → (g.call limits ⊕ with_subject) us a → g.predicate limits us a
   from_rest us a (inl h) = inr (inr (inr (inr h)))
   from_rest us a (inr h) = from_subject us h.first h.second h.between a h.parts h.left h.right
 
