@@ -17,7 +17,7 @@ use Rattle.sq_parse.specs.Grammar as g
 use Rattle.sq_parse.specs.Grammar.{Limits, shipped}
 use Rattle.sq_parse.specs.Parse.{unlimited}
 use Rattle.sq_parse.specs.Reader as read
-use Rattle.sq_parse.proofs.Marks.{all_within, within_self}
+use Rattle.sq_parse.proofs.Marks.{apart_at, all_within, within_self}
 use Rattle.sq_parse.proofs.Exact.{Full-after}
 use Rattle.sq_parse.proofs.Exact as exact
 use Rattle.sq_parse.proofs.Loops.{Shrinks, Shrinks-exact}
@@ -102,14 +102,14 @@ module _ (C : Faults) where
   module _ (m' l' : List Tok → Tree → Type 0) (p' : Parser Tree) where
     nothing_lower : (C.owed stop.TooDeep → (us : List Tok) × (a : Tree) × m' us a) → (C.counts stop.TooDeep → (w : List Tok) → p' w ≡ Err (stop.TooDeep, w)) → Lower rule.nothing m' rule.nothing l' (reading.refuse stop.TooDeep) p'
     unfolding same
-    nothing_lower deeper again = refused (is k.Not) stop.TooDeep refl (λ e. cc)
+    nothing_lower deeper again = refused (is k.Not) stop.TooDeep refl (λ e. cc) (apart_at (is k.Not) (is k.Number) refl)
         (let z = predicate.sample in (z.0, z.1, inr (test_of shipped rule.nothing z.0 z.1 z.2)))
         (λ o n e. let z = deeper o in (z.0, t.Not z.1, inl (denied_by m' n z.0 z.1 e z.2)))
         (λ c w e. rw (again c w) refl)
 
     nothing_inner : (C.owed stop.TooDeep → (us : List Tok) × (a : Tree) × l' us a) → (C.counts stop.TooDeep → (w : List Tok) → p' w ≡ Err (stop.TooDeep, w)) → Inner rule.nothing l' (reading.refuse stop.TooDeep) p'
     unfolding same
-    nothing_inner deeper again = refused (is k.Open) stop.TooDeep refl (λ e. cc)
+    nothing_inner deeper again = refused (is k.Open) stop.TooDeep refl (λ e. cc) (apart_at (is k.Open) (is k.Number) refl)
         (let z = predicate.sample in (z.0, z.1, inr z.2))
         (λ o n e. let z = deeper o in (z.0 ++ tok k.Close ∷ [], z.1, inl (enclosed_by l' n z.0 z.1 e z.2)))
         (λ c w e. again c w)

@@ -19,14 +19,15 @@ use Rattle.sq_parse.specs.Grammar as g
 use Rattle.sq_parse.specs.Grammar.{Limits, shipped}
 use Rattle.sq_parse.specs.Parse.{unlimited}
 use Rattle.sq_parse.specs.Reader as read
+use Rattle.sq_parse.specs.Fault.{is_large, last}
 use Rattle.sq_parse.proofs.Marks.{within, apart, apart_at, within_at, all_within, within_self}
 use Rattle.sq_parse.proofs.Exact.{Full, Full-either, Full-gives, Full-left, Full-right, Full-number, Full-token, Ok-value, Err-Ok, no_number}
 use Rattle.sq_parse.proofs.Exact as exact
 use Rattle.sq_parse.proofs.Loops.{Shrinks-exact}
 use Rattle.sq_parse.proofs.Shrinking.{nested, no_sign}
 use Rattle.sq_parse.proofs.OperandsExact as operands
-use Rattle.sq_parse.proofs.Places.{is_large, fits, last, first, Clean, view, next_same, next_seen}
-use Rattle.sq_parse.proofs.Tracks.{Faults, Passed, Failed, Tracks, TracksWhen, Err-value, Ok-Err, if_is, any, unstarred, tok, not_large, token, plainly, along, along_passed, along_failed, alike, alike_passed, alike_failed, gives, followed, after, either, maybe, repeated, always, gives_when, followed_when, by_test, Moves, moves_number, moves_token, moves_gives, moves_then, moves_chain, moves_right, falls, shrinks_by}
+use Rattle.sq_parse.proofs.Places.{fits, first, Clean, view, next_same, next_seen}
+use Rattle.sq_parse.proofs.Tracks.{Faults, Stands, Passed, Failed, Tracks, TracksWhen, Err-value, Ok-Err, if_is, any, unstarred, tok, not_large, token, plainly, along, along_passed, along_failed, alike, alike_passed, alike_failed, gives, followed, after, either, maybe, repeated, always, gives_when, followed_when, by_test, Moves, moves_number, moves_token, moves_gives, moves_then, moves_chain, moves_right, falls, shrinks_by}
 
 -- ---- numbers
 
@@ -79,6 +80,7 @@ module _ (w : ℕ → Bool) (pre : Mark → Bool) where
       again = λ c. absurd (C.no_number c);
       clean = λ left _. tt;
       large = λ left m _. fits_not left t (next ts) e (large left m);
+      stands = tt;
     }
 
     number_failed : (ts : List Tok) (s : Stop) (rest : List Tok) → reading.number w ts ≡ Err (s, rest) → w 0 ≡ true → ((left : Mark) → pre left ≡ true → w (head ts).number ≡ false → is_large left (head ts).number (next (behind ts)) ≡ true)
@@ -102,6 +104,7 @@ module _ (w : ℕ → Bool) (pre : Mark → Bool) where
           again = λ _ v e'. rw (ap (is k.Number) (sym (ap next others ∙ next_seen rest v e')) ∙ h.0) (ap (λ x. Err (x, v)) which);
           clean = λ left _. tt;
           large = λ left _ too. absurd (not_large (which ∙ too));
+          stands = subst (λ z. Stands z (next rest)) which tt;
         })
         (if_is (is k.Number (next ts)) _ (Err (stop.Syntax, ts)) (Err (s, rest)) e)
 

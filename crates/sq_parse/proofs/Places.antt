@@ -4,18 +4,11 @@ use Rattle.sq_parse.specs.declared.mark.Mark.{Mark}
 use Rattle.sq_parse.specs.declared.mark.Mark.TheVariants as k
 use Rattle.sq_parse.specs.Mark.{is}
 use Rattle.sq_parse.specs.Tok.{Tok, next, done}
+use Rattle.sq_parse.specs.Fault.{last, is_large}
 
--- whether a number may not stand between these two tokens
-abbrev pub is_large : Mark → ℕ → Mark → Bool
-is_large left n right = nat_lt 9223372036854775807 n || (nat_lt 2147483647 n && (is k.Star left || is k.Star right))
-
+-- a token is no number, or may stand between these two
 abbrev pub fits : Mark → Tok → Mark → Bool
 fits left t right = not (is k.Number t.mark && is_large left t.number right)
-
--- the mark of the last token, or the one before
-abbrev pub last : Mark → List Tok → Mark
-last m [] = m
-last m (t ∷ ts) = last t.mark ts
 
 -- the next mark of a list before a given one
 abbrev pub first : List Tok → Mark → Mark

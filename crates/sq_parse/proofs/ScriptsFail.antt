@@ -5,15 +5,19 @@ use Rattle.sq_parse.specs.declared.mark.Mark.TheVariants as k
 use Rattle.sq_parse.specs.declared.stop.Stop.{Stop}
 use Rattle.sq_parse.specs.declared.stop.Stop.TheVariants as stop
 use Rattle.sq_parse.specs.declared.tree.Script.{Script}
+use Rattle.sq_parse.specs.Mark.{is}
 use Rattle.sq_parse.specs.Tok.{Tok, head, next, behind, done}
 use Rattle.sq_parse.specs.Grammar as g
 use Rattle.sq_parse.specs.Grammar.{Limits, shipped}
 use Rattle.sq_parse.specs.Parse.{unlimited}
 use Rattle.sq_parse.specs.Reader as read
+use Rattle.sq_parse.specs.Fault.{last}
 use Rattle.sq_parse.proofs.Exact.{Ok-value, Err-Ok, if_ok, and_then_ok}
-use Rattle.sq_parse.proofs.Places.{fits, last, Clean, view}
-use Rattle.sq_parse.proofs.Tracks.{Faults, Failed, Further, Passed, Tracks, any, unstarred}
+use Rattle.sq_parse.proofs.Places.{fits, Clean, view}
+use Rattle.sq_parse.proofs.Tracks.{Faults, Stands, Failed, Further, Passed, Tracks, any, unstarred}
 use Rattle.sq_parse.proofs.ScriptsTrack.{Fits, script}
+use Rattle.sq_parse.proofs.StatementsExact.{script_again}
+use Rattle.sq_parse.proofs.Shrinking.{nested}
 
 -- where reading a script within a depth, of one statement and at most so many more, stopped
 pub record StoppedAt (d n : ℕ) (ts : List Tok) (s : Stop) (rest : List Tok) : Type 0 where
@@ -33,6 +37,9 @@ pub record StoppedAt (d n : ℕ) (ts : List Tok) (s : Stop) (rest : List Tok) : 
   -- no number before is too large, and a number that is too large is
   pub clean : Clean k.End before (next rest)
   pub large : s ≡ stop.NumberTooLarge → fits (last k.End before) (head rest) (next (behind rest)) ≡ false
+  pub never : s ≢ stop.Memory
+  -- the token of a fault of depth or of statements is no number
+  pub no_number : s ≢ stop.Syntax → s ≢ stop.NumberTooLarge → is k.Number (next rest) ≡ false
 
 -- the limits of scripts
 abbrev pub ScriptFailed : List Tok → Stop → List Tok → Type 0
@@ -48,6 +55,13 @@ cancel (u ∷ us) (v ∷ vs) rest e = ap₂ (λ x xs. x ∷ xs) (ap head e) (can
 
 seen : (v w : List Tok) → next v ≡ next w → done v ≡ done w → view v ≡ view w
 seen v w e f = ap₂ (λ m b. (m, b)) e f
+
+no_number : (s : Stop) (m : Mark) → Stands s m → s ≢ stop.Syntax → s ≢ stop.NumberTooLarge → is k.Number m ≡ false
+no_number stop.Memory m h a b = absurd h
+no_number stop.Syntax m h a b = absurd (a refl)
+no_number stop.NumberTooLarge m h a b = absurd (b refl)
+no_number stop.TooDeep m h a b = h
+no_number stop.TooManyStatements m h a b = h
 
 -- ---- what is asked
 
@@ -110,6 +124,8 @@ module _ (d n : ℕ) where
       again = again_by;
       clean = found.clean k.End refl;
       large = found.large k.End refl;
+      never = λ e. subst (λ z. Stands z (next rest)) e found.stands;
+      no_number = no_number s (next rest) found.stands;
     }
       where
         not_syntax : stop.TooManyStatements ≡ stop.Syntax → ⊥
@@ -148,3 +164,9 @@ script_fails = script_stops 64 63
 
 pub script_clean : (ts : List Tok) (tree : Script) (rest : List Tok) → read.script shipped 64 63 ts ≡ Ok (tree, rest) → Clean k.End ts k.End
 script_clean = script_is_clean 64 63
+
+-- and without the limits of numbers it is a script of the same depth
+pub script_widens : (ts : List Tok) (tree : Script) → g.script shipped 64 ts tree → length tree.statements ≤ 64 → g.script unlimited 64 ts tree
+script_widens ts tree h few =
+    let f : Passed (Fits 64 63) (g.script unlimited 64) (read.script unlimited 64 63) any unstarred ts tree [] = (level_tracked 64 63).passes ts tree [] (script_again shipped nested 64 63 ts tree h few) in
+    subst (λ z. g.script unlimited 64 z tree) (sym (f.parts ∙ append-nil f.us)) f.wide

@@ -16,7 +16,7 @@ use Rattle.sq_parse.specs.Grammar as g
 use Rattle.sq_parse.specs.Grammar.{shipped}
 use Rattle.sq_parse.specs.Parse.{unlimited}
 use Rattle.sq_parse.specs.Reader as read
-use Rattle.sq_parse.proofs.Marks.{all_within, within_self}
+use Rattle.sq_parse.proofs.Marks.{apart_at, all_within, within_self}
 use Rattle.sq_parse.proofs.Exact.{Chain, Err-Ok, if_ok}
 use Rattle.sq_parse.proofs.Places.{view, next_seen, done_same}
 use Rattle.sq_parse.proofs.Tracks.{Faults, Failed, Tracks, TracksWhen, Err-value, Ok-Err, if_is, any, unstarred, not_large, empty, token, plainly, along, along_when, gives, chained, nothing, always, chosen, chosen_by}
@@ -136,6 +136,10 @@ module _ (C : Faults) (d d' e : ℕ) (a : d ≤ d') (b : d ≤ e) (deep : C.coun
   too_many_again zero w z h = rw h refl
   too_many_again (suc n') w z h = absurd (omega arith)
 
+  no_number : (m : Mark) → is k.Select m ≡ true → is k.Number m ≡ false
+  unfolding same
+  no_number m e = apart_at (is k.Select) (is k.Number) refl m e
+
   too_many_failed : (n' : ℕ) → (C.counts stop.TooManyStatements → zero ≡ n') → (ts : List Tok) → not (done ts) ≡ true → is k.Select (next ts) ≡ true → Failed (Few_behind One zero) (Behind One') (more_by n') C unstarred ts stop.TooManyStatements ts
   too_many_failed n' many [] h i = absurd (no_both h)
     where
@@ -151,6 +155,7 @@ module _ (C : Faults) (d d' e : ℕ) (a : d ≤ d') (b : d ≤ e) (deep : C.coun
     again = λ c w m. too_many_again n' w (many c) (ap (is k.Select) (sym (next_seen (t ∷ ts) w m)) ∙ i);
     clean = λ left _. tt;
     large = λ left _ too. absurd (other too);
+    stands = no_number t.mark i;
   }
     where
       other : stop.TooManyStatements ≡ stop.NumberTooLarge → ⊥
@@ -165,6 +170,7 @@ module _ (C : Faults) (d d' e : ℕ) (a : d ≤ d') (b : d ≤ e) (deep : C.coun
     again = λ c w m. no_more_again n' w (ap (is k.Select) (sym (next_seen ts w m)) ∙ i);
     clean = λ left _. tt;
     large = λ left _ too. absurd (not_large too);
+    stands = tt;
   }
 
   no_more : (n' : ℕ) → (C.counts stop.TooManyStatements → zero ≡ n') → TracksWhen (λ ts. not (done ts)) (Few_behind One zero) (Behind One') (read.no_more shipped) (more_by n') C unstarred unstarred
@@ -214,6 +220,7 @@ module _ (C : Faults) (d d' e : ℕ) (a : d ≤ d') (b : d ≤ e) (deep : C.coun
       again = λ c w m. refl;
       clean = λ left _. tt;
       large = λ left _ too. absurd (not_large too);
+      stands = tt;
     });
   }
 

@@ -11,10 +11,11 @@ use Rattle.sq_parse.specs.Rules as rule
 use Rattle.sq_parse.specs.Rules.{Rule, Then, ◌⊗◌, ◌⊕◌, ◌⊛◌}
 use Rattle.sq_parse.specs.Reading as read
 use Rattle.sq_parse.specs.Reading.{Parser, Outcome, and_then, ◌>>=◌, ◌<$>◌, ◌<+>◌}
+use Rattle.sq_parse.specs.Fault.{last}
 use Rattle.sq_parse.proofs.Marks.{within, within_at, apart, apart_at, all_within, within_self}
 use Rattle.sq_parse.proofs.Exact.{Chain, Full, Full-after, Ok-value, Err-Ok, if_ok, and_then_ok}
 use Rattle.sq_parse.proofs.Loops.{Shrinks, many_step}
-use Rattle.sq_parse.proofs.Places.{fits, last, first, Clean, view, last-append, next-append, next_same, next_seen, view_same, Clean-append}
+use Rattle.sq_parse.proofs.Places.{fits, first, Clean, view, last-append, next-append, next_same, next_seen, view_same, Clean-append}
 
 -- what is asked of faults: which don't depend on what stands behind the next token, and behind which the wide rule goes on
 pub record Faults : Type 1 where
@@ -41,6 +42,14 @@ pub record Further {A : Type 0} (l' : List Tok → A → Type 0) (before rest : 
   pub value : A
   pub spelled : l' (before ++ token ∷ us) value
 
+-- at which token a reading function may stop so; for want of memory it never does
+abbrev pub Stands : Stop → Mark → Type 0
+Stands stop.Memory m = ⊥
+Stands stop.Syntax m = Unit {0}
+Stands stop.NumberTooLarge m = Unit {0}
+Stands stop.TooDeep m = is k.Number m ≡ false
+Stands stop.TooManyStatements m = is k.Number m ≡ false
+
 -- where reading stopped
 pub record Failed {A : Type 0} (l l' : List Tok → A → Type 0) (p' : Parser A) (C : Faults) (pre : Mark → Bool) (ts : List Tok) (s : Stop) (rest : List Tok) : Type 0 where
   pub before : List Tok
@@ -50,6 +59,7 @@ pub record Failed {A : Type 0} (l l' : List Tok → A → Type 0) (p' : Parser A
   pub again : C.counts s → (w : List Tok) → view rest ≡ view w → p' (before ++ w) ≡ Err (s, w)
   pub clean : (left : Mark) → pre left ≡ true → Clean left before (next rest)
   pub large : (left : Mark) → pre left ≡ true → s ≡ stop.NumberTooLarge → fits (last left before) (head rest) (next (behind rest)) ≡ false
+  pub stands : Stands s (next rest)
 
 pub record Tracks {A : Type 0} (l l' : List Tok → A → Type 0) (p p' : Parser A) (C : Faults) (pre post : Mark → Bool) : Type 0 where
   pub passes : (ts : List Tok) (a : A) (rest : List Tok) → p ts ≡ Ok (a, rest) → Passed l l' p' pre post ts a rest
@@ -98,6 +108,7 @@ weaker {pre = pre} {post = post} pre' post' x less more = record {
     again = y.again;
     clean = λ left h. y.clean left (within_at pre' pre less left h);
     large = λ left h. y.large left (within_at pre' pre less left h);
+    stands = y.stands;
   };
   sample = x.sample;
 }
@@ -145,6 +156,7 @@ module _ (C : Faults) (p : Mark → Bool) (post : Mark → Bool) (m : Mark) (non
         again = λ _ w e'. rw (ap p (sym (ap next others ∙ next_seen rest w e')) ∙ h.0) (ap (λ x. Err (x, w)) which);
         clean = λ left _. tt;
         large = λ left _ large. absurd (not_large (which ∙ large));
+        stands = subst (λ z. Stands z (next rest)) which tt;
       })
       (if_is (p (next ts)) (Ok (head ts, behind ts)) (Err (stop.Syntax, ts)) (Err (s, rest)) e)
 
@@ -167,6 +179,7 @@ along_failed from from' x = record {
   again = x.again;
   clean = x.clean;
   large = x.large;
+  stands = x.stands;
 }
 
 pub along : {A : Type 0} {l l' m m' : List Tok → A → Type 0} {p p' : Parser A} {C : Faults} {pre post : Mark → Bool}
@@ -189,6 +202,7 @@ alike_failed same_outcome x = record {
   again = λ c w e. same_outcome (x.before ++ w) ∙ x.again c w e;
   clean = x.clean;
   large = x.large;
+  stands = x.stands;
 }
 
 pub alike : {A : Type 0} {l l' : List Tok → A → Type 0} {p p' q q' : Parser A} {C : Faults} {pre post : Mark → Bool}
@@ -220,6 +234,7 @@ given_failed f x = record {
   again = λ c w e. rw (x.again c w e) refl;
   clean = x.clean;
   large = x.large;
+  stands = x.stands;
 }
 
 pub gives : {A B : Type 0} {l l' : List Tok → A → Type 0} {p p' : Parser A} {C : Faults} {pre post : Mark → Bool} (f : A → B) → Tracks l l' p p' C pre post → Tracks (f ⊛ l) (f ⊛ l') (f <$> p) (f <$> p') C pre post
@@ -279,6 +294,7 @@ chain_failed q' sampled x =
       again = λ c w e. rw (x.again c w e) refl;
       clean = x.clean;
       large = x.large;
+      stands = x.stands;
     }
 
 pub chain_failed_behind : {A B : Type 0} {l l' : List Tok → A → Type 0} {r r' : A → List Tok → B → Type 0} {p' : Parser A} {C : Faults} {pre mid mid' : Mark → Bool} {ts rest : List Tok} {s : Stop} (q' : A → Parser B) → within mid mid' ≡ true → (m : List Tok) (a : A) → Passed l l' p' pre mid ts a m → Failed (r a) (r' a) (q' a) C mid' m s rest → Failed (Chain l r) (Chain l' r') (p' >>= q') C pre ts s rest
@@ -301,6 +317,7 @@ chain_failed_behind {mid = mid} {mid'} {rest = rest} q' joins m a x y = record {
       let c = x.clean left h in
       Clean-append left x.us y.before (next rest) (meeting left x.us y.before m rest y.parts c.0) (y.clean (last left x.us) (within_at mid mid' joins _ c.1));
   large = λ left h is. rw last-append (y.large (last left x.us) (within_at mid mid' joins _ (x.clean left h).1) is);
+  stands = y.stands;
 }
 
 pub chained : {A B : Type 0} {l l' : List Tok → A → Type 0} {r r' : A → List Tok → B → Type 0} {p p' : Parser A} {q q' : A → Parser B} {C : Faults} {pre mid mid' post : Mark → Bool}
@@ -363,6 +380,7 @@ left_failed test q' x holds = record {
   again = holds;
   clean = x.clean;
   large = x.large;
+  stands = x.stands;
 }
 
 pub right_failed : {A : Type 0} {l l' r r' : List Tok → A → Type 0} {q' : Parser A} {C : Faults} {pre : Mark → Bool} {ts rest : List Tok} {s : Stop} (test : List Tok → Bool) (p' : Parser A) (x : Failed r r' q' C pre ts s rest) → (C.counts s → (w : List Tok) → view rest ≡ view w → cond (test (x.before ++ w)) (p' (x.before ++ w)) (q' (x.before ++ w)) ≡ Err (s, w))
@@ -375,6 +393,7 @@ right_failed test p' x holds = record {
   again = holds;
   clean = x.clean;
   large = x.large;
+  stands = x.stands;
 }
 
 -- the next token alone tells, so what stands behind what was read doesn't matter
@@ -680,10 +699,10 @@ again_at_once {p' = p'} x s rest w c e m =
 -- ---- what is refused
 
 -- before such a token all is refused, which the wide rule can go on with
-pub refused : {A : Type 0} {l l' : List Tok → A → Type 0} {p' : Parser A} {C : Faults} {pre post : Mark → Bool} (test : Mark → Bool) (s : Stop) → test k.End ≡ false → (s ≡ stop.NumberTooLarge → ⊥)
+pub refused : {A : Type 0} {l l' : List Tok → A → Type 0} {p' : Parser A} {C : Faults} {pre post : Mark → Bool} (test : Mark → Bool) (s : Stop) → test k.End ≡ false → (s ≡ stop.NumberTooLarge → ⊥) → ((m : Mark) → test m ≡ true → Stands s m)
     → ((us : List Tok) × (a : A) × l us a) → (C.owed s → (t : Tok) → test t.mark ≡ true → (us : List Tok) × (a : A) × l' (t ∷ us) a)
     → (C.counts s → (w : List Tok) → test (next w) ≡ true → p' w ≡ Err (s, w)) → TracksWhen (λ ts. test (next ts)) l l' (read.refuse s) p' C pre post
-refused {A} {l} {l'} {p'} {C} {pre} {post} test s none other sampled goes_on again = record {
+refused {A} {l} {l'} {p'} {C} {pre} {post} test s none other stands sampled goes_on again = record {
   passes = λ ts a rest h e. absurd (Err-Ok e);
   fails = λ ts z rest h e.
       let pair = Err-value e in
@@ -703,4 +722,5 @@ refused {A} {l} {l'} {p'} {C} {pre} {post} test s none other sampled goes_on aga
       again = λ c w e. again c w (ap test (sym (next_seen (t ∷ ts) w e)) ∙ h);
       clean = λ left _. tt;
       large = λ left _ too. absurd (other too);
+      stands = stands t.mark h;
     }

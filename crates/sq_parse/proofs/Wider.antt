@@ -13,7 +13,7 @@ use Rattle.sq_parse.specs.Grammar.{Limits}
 use Rattle.sq_parse.specs.Parse.{unlimited, OneTree}
 use Rattle.sq_parse.proofs.StatementsExact.{one_script}
 
-abbrev Sub : {A : Type 0} → (List Tok → A → Type 0) → (List Tok → A → Type 0) → Type 0
+abbrev pub Sub : {A : Type 0} → (List Tok → A → Type 0) → (List Tok → A → Type 0) → Type 0
 Sub {A} l m = (us : List Tok) (a : A) → l us a → m us a
 
 same_rule : {A : Type 0} (l : List Tok → A → Type 0) → Sub l l
@@ -82,7 +82,7 @@ module _ (limits : Limits) where
         (then _ _ _ _ (after k.From _ _ (gives (λ p. p.0 ∷ p.1) _ _ (then g.source g.source _ _ (same_rule g.source) (many (g.join limits d) (g.join limits e) join))))
         (then _ _ _ _ (maybe _ _ (after k.Where _ _ condition)) (same_rule _))))))
 
-    script : Sub (g.script limits d) (g.script limits e)
+    pub script : Sub (g.script limits d) (g.script limits e)
     script = gives (λ p. record { statements = p.0.0 ∷ p.0.1 }) _ _ (then _ _ _ _ (separated k.Semicolon (g.statement limits d) (g.statement limits e) statement) (same_rule (rule.optional (rule.mark k.Semicolon))))
 
 -- a list of tokens has at most one tree
