@@ -19,7 +19,8 @@ use Rattle.sq_parse.proofs.Exact.{Full-after}
 use Rattle.sq_parse.proofs.Exact as exact
 use Rattle.sq_parse.proofs.Loops.{Shrinks, Shrinks-exact}
 use Rattle.sq_parse.proofs.ConditionsExact as conditions_exact
-use Rattle.sq_parse.proofs.Tracks.{Faults, Tracks, TracksWhen, unstarred, tok, token, plainly, along, along_when, gives, followed, after, maybe, separated, enclosed, always, chosen, refused}
+use Rattle.sq_parse.proofs.Tracks.{Faults, Tracks, unstarred, tok, token, along, gives, followed, after}
+use Rattle.sq_parse.proofs.Choices.{TracksWhen, plainly, along_when, maybe, separated, enclosed, always, chosen, refused}
 use Rattle.sq_parse.proofs.PredicatesTrack as predicates
 
 -- ---- parts of the rules

@@ -14,7 +14,8 @@ use Rattle.sq_parse.specs.Reader as read
 use Rattle.sq_parse.proofs.Marks.{within_self}
 use Rattle.sq_parse.proofs.Shrinking as shrinking
 use Rattle.sq_parse.proofs.ItemsExact.{column_rest, dot_rest, from_rest}
-use Rattle.sq_parse.proofs.Tracks.{Faults, Tracks, any, unstarred, token, weaker, plainly, along, gives, followed, chained, after, either, maybe, list_of}
+use Rattle.sq_parse.proofs.Tracks.{Faults, Tracks, any, unstarred, token, weaker, along, gives, followed, chained, after}
+use Rattle.sq_parse.proofs.Choices.{plainly, either, maybe, list_of}
 use Rattle.sq_parse.proofs.OperandsTrack as operands
 
 module _ (C : Faults) where

@@ -25,7 +25,8 @@ use Rattle.sq_parse.proofs.Loops.{Shrinks-exact}
 use Rattle.sq_parse.proofs.Shrinking.{nested, no_sign}
 use Rattle.sq_parse.proofs.OperandsExact as operands
 use Rattle.sq_parse.proofs.Places.{is_large, fits, view, next_same, next_seen}
-use Rattle.sq_parse.proofs.Tracks.{Faults, Passed, Failed, Tracks, TracksWhen, Err-value, Ok-Err, if_is, any, unstarred, tok, not_large, token, plainly, along, alike, gives, followed, after, either, maybe, repeated, gives_when, followed_when, by_test, Moves, moves_number, moves_token, moves_gives, moves_then, moves_chain, moves_right, falls, shrinks_by}
+use Rattle.sq_parse.proofs.Tracks.{Faults, Passed, Failed, Tracks, Err-value, Ok-Err, if_is, any, unstarred, tok, not_large, token, along, alike, gives, followed, after}
+use Rattle.sq_parse.proofs.Choices.{TracksWhen, plainly, either, maybe, repeated, gives_when, followed_when, by_test, Moves, moves_number, moves_token, moves_gives, moves_then, moves_chain, moves_right, falls, shrinks_by}
 
 -- ---- numbers
 

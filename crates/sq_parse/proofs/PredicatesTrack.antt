@@ -22,7 +22,8 @@ use Rattle.sq_parse.proofs.Loops.{Shrinks, Shrinks-exact}
 use Rattle.sq_parse.proofs.OperandsExact as operands_exact
 use Rattle.sq_parse.proofs.PredicatesExact.{compared_rest, null_rest, between_rest, within_rest, ranged_rest, subject_rest, with_subject, from_rest}
 use Rattle.sq_parse.proofs.Places.{view, next_same, next_seen}
-use Rattle.sq_parse.proofs.Tracks.{Faults, Tracks, any, unstarred, token, plainly, along, gives, followed, chained, after, either, maybe, list_of, enclosed, always, by_test, if_is, Moves, moves_gives, moves_then, moves_chain, falls, shrinks_by, again_at_once}
+use Rattle.sq_parse.proofs.Tracks.{Faults, Tracks, any, unstarred, token, along, gives, followed, chained, after, if_is}
+use Rattle.sq_parse.proofs.Choices.{plainly, either, maybe, list_of, enclosed, always, by_test, Moves, moves_gives, moves_then, moves_chain, falls, shrinks_by, again_at_once}
 use Rattle.sq_parse.proofs.OperandsTrack as operands
 use Rattle.sq_parse.proofs.OperandsTrack.{Full-name, Full-operand}
 

@@ -18,7 +18,8 @@ use Rattle.sq_parse.specs.Reader as read
 use Rattle.sq_parse.proofs.Marks.{within_self}
 use Rattle.sq_parse.proofs.Exact.{Chain, Err-Ok}
 use Rattle.sq_parse.proofs.Places.{next_seen, done_same}
-use Rattle.sq_parse.proofs.Tracks.{Faults, Failed, Tracks, TracksWhen, Err-value, if_is, any, unstarred, not_large, empty, token, plainly, along, along_when, gives, chained, nothing, always, chosen, chosen_by}
+use Rattle.sq_parse.proofs.Tracks.{Faults, Failed, Tracks, Err-value, if_is, any, unstarred, not_large, token, along, gives, chained}
+use Rattle.sq_parse.proofs.Choices.{TracksWhen, empty, plainly, along_when, nothing, always, chosen, chosen_by}
 use Rattle.sq_parse.proofs.StatementsTrack as statements
 
 -- ---- what stands behind the first statement

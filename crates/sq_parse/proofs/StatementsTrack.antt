@@ -14,7 +14,8 @@ use Rattle.sq_parse.proofs.Marks.{within_self}
 use Rattle.sq_parse.proofs.Loops.{Shrinks, Shrinks-exact}
 use Rattle.sq_parse.proofs.Shrinking.{nested, no_join}
 use Rattle.sq_parse.proofs.StatementsExact as statements_exact
-use Rattle.sq_parse.proofs.Tracks.{Faults, Tracks, any, unstarred, token, weaker, plainly, gives, followed, after, either, maybe, repeated}
+use Rattle.sq_parse.proofs.Tracks.{Faults, Tracks, any, unstarred, token, weaker, gives, followed, after}
+use Rattle.sq_parse.proofs.Choices.{plainly, either, maybe, repeated}
 use Rattle.sq_parse.proofs.ItemsTrack as items
 use Rattle.sq_parse.proofs.ConditionsTrack as conditions
 
