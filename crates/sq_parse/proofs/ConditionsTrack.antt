@@ -1,8 +1,6 @@
 -- Where the readers of conditions stop, however deep.
-use Rattle.std.proofs.Common.{◌≡◌, Bool, true, false, inl, inr, ℕ, zero, suc, ◌<◌, ◌≤◌, List, [], ◌∷◌, ◌++◌, Option, Some, None, Err, refl, sym, append-nil, arith}
-use Rattle.sq_parse.specs.declared.mark.Mark.{Mark}
+use Rattle.std.proofs.Common.{◌≡◌, true, inl, inr, ℕ, zero, suc, ◌<◌, ◌≤◌, List, [], ◌∷◌, ◌++◌, None, Err, refl, sym, append-nil, arith}
 use Rattle.sq_parse.specs.declared.mark.Mark.TheVariants as k
-use Rattle.sq_parse.specs.declared.stop.Stop.{Stop}
 use Rattle.sq_parse.specs.declared.stop.Stop.TheVariants as stop
 use Rattle.sq_parse.specs.declared.tree.Tree.{Tree}
 use Rattle.sq_parse.specs.declared.tree.Tree.TheVariants as t
@@ -17,12 +15,13 @@ use Rattle.sq_parse.specs.Grammar as g
 use Rattle.sq_parse.specs.Grammar.{Limits, shipped}
 use Rattle.sq_parse.specs.Parse.{unlimited}
 use Rattle.sq_parse.specs.Reader as read
-use Rattle.sq_parse.proofs.Marks.{apart_at, all_within, within_self}
+use Rattle.sq_parse.proofs.Marks.{apart_at}
 use Rattle.sq_parse.proofs.Exact.{Full-after}
 use Rattle.sq_parse.proofs.Exact as exact
 use Rattle.sq_parse.proofs.Loops.{Shrinks, Shrinks-exact}
 use Rattle.sq_parse.proofs.ConditionsExact as conditions_exact
-use Rattle.sq_parse.proofs.Tracks.{Faults, Tracks, TracksWhen, any, unstarred, tok, token, plainly, along, along_when, gives, gives_when, followed, after, maybe, separated, enclosed, always, chosen, refused}
+use Rattle.sq_parse.proofs.Tracks.{Faults, Tracks, unstarred, tok, token, along, gives, followed, after}
+use Rattle.sq_parse.proofs.Choices.{TracksWhen, plainly, along_when, maybe, separated, enclosed, always, chosen, refused}
 use Rattle.sq_parse.proofs.PredicatesTrack as predicates
 
 -- ---- parts of the rules

@@ -16,6 +16,7 @@ pub mod ParseLemmas
 pub mod Wider
 pub mod Places
 pub mod Tracks
+pub mod Choices
 pub mod OperandsTrack
 pub mod ItemsTrack
 pub mod PredicatesTrack

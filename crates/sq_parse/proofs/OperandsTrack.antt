@@ -1,12 +1,11 @@
 -- Where the readers of names, columns and operands stop.
-use Rattle.std.proofs.Common.{◌≡◌, Bool, true, false, not, ◌&&◌, ◌||◌, cond, inl, inr, ⊎_elim, ℕ, nat_lt, nat_le, ◌<◌, ◌≤◌, List, [], ◌∷◌, ◌++◌, length, Some, None, Ok, Err, refl, ap, sym, subst, ◌∙◌, arith}
+use Rattle.std.proofs.Common.{◌≡◌, Bool, true, false, not, ◌&&◌, ◌||◌, cond, inl, inr, ⊎_elim, ℕ, nat_lt, ◌<◌, ◌≤◌, List, [], ◌∷◌, ◌++◌, length, Some, None, Ok, Err, refl, ap, sym, subst, ◌∙◌, arith}
 use Rattle.std.proofs.lemmas.Bool.Decides.{nat_tests}
 use Rattle.sq_parse.specs.declared.mark.Mark.{Mark}
 use Rattle.sq_parse.specs.declared.mark.Mark.TheVariants as k
 use Rattle.sq_parse.specs.declared.stop.Stop.{Stop}
 use Rattle.sq_parse.specs.declared.stop.Stop.TheVariants as stop
 use Rattle.sq_parse.specs.declared.tree.RawTerm.{RawTerm}
-use Rattle.sq_parse.specs.declared.tree.Operand.{Operand}
 use Rattle.sq_parse.specs.declared.tree.Operand.TheVariants as o
 use Rattle.sq_parse.specs.Mark.{is, same, is_name, is_sign}
 use Rattle.sq_parse.specs.Tok.{Tok, head, next, behind}
@@ -19,15 +18,16 @@ use Rattle.sq_parse.specs.Grammar as g
 use Rattle.sq_parse.specs.Grammar.{Limits, shipped}
 use Rattle.sq_parse.specs.Parse.{unlimited}
 use Rattle.sq_parse.specs.Reader as read
-use Rattle.sq_parse.specs.Fault.{is_large, last}
-use Rattle.sq_parse.proofs.Marks.{within, apart, apart_at, within_at, all_within, within_self}
+use Rattle.sq_parse.specs.Fault.{is_large}
+use Rattle.sq_parse.proofs.Marks.{apart_at, within_at, within_self}
 use Rattle.sq_parse.proofs.Exact.{Full, Full-either, Full-gives, Full-left, Full-right, Full-number, Full-token, Ok-value, Err-Ok, no_number}
 use Rattle.sq_parse.proofs.Exact as exact
 use Rattle.sq_parse.proofs.Loops.{Shrinks-exact}
 use Rattle.sq_parse.proofs.Shrinking.{nested, no_sign}
 use Rattle.sq_parse.proofs.OperandsExact as operands
-use Rattle.sq_parse.proofs.Places.{fits, first, Clean, view, next_same, next_seen}
-use Rattle.sq_parse.proofs.Tracks.{Faults, Stands, Passed, Failed, Tracks, TracksWhen, Err-value, Ok-Err, if_is, any, unstarred, tok, not_large, token, plainly, along, along_passed, along_failed, alike, alike_passed, alike_failed, gives, followed, after, either, maybe, repeated, always, gives_when, followed_when, by_test, Moves, moves_number, moves_token, moves_gives, moves_then, moves_chain, moves_right, falls, shrinks_by}
+use Rattle.sq_parse.proofs.Places.{fits, view, next_same, next_seen}
+use Rattle.sq_parse.proofs.Tracks.{Faults, Stands, Passed, Failed, Tracks, Err-value, Ok-Err, if_is, any, unstarred, tok, not_large, token, along, alike, gives, followed, after}
+use Rattle.sq_parse.proofs.Choices.{TracksWhen, plainly, either, maybe, repeated, gives_when, followed_when, by_test, Moves, moves_number, moves_token, moves_gives, moves_then, moves_chain, moves_right, falls, shrinks_by}
 
 -- ---- numbers
 

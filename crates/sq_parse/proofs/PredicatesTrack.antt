@@ -1,15 +1,11 @@
 -- Where the readers of predicates stop.
-use Rattle.std.proofs.Common.{◌≡◌, Bool, true, false, ◌&&◌, cond, inl, inr, ⊎_elim, ◌+◌, ◌<◌, ◌≤◌, List, [], ◌∷◌, ◌++◌, length, Option, Some, None, is_some, Ok, Err, refl, ap, sym, ◌∙◌, subst, arith, length-append}
-use Rattle.sq_parse.specs.declared.mark.Mark.{Mark}
+use Rattle.std.proofs.Common.{◌≡◌, Bool, true, false, ◌&&◌, cond, inl, ⊎_elim, ◌+◌, ◌<◌, ◌≤◌, List, [], ◌∷◌, ◌++◌, length, Option, is_some, Err, refl, ap, sym, ◌∙◌, arith, length-append}
 use Rattle.sq_parse.specs.declared.mark.Mark.TheVariants as k
 use Rattle.sq_parse.specs.declared.stop.Stop.{Stop}
-use Rattle.sq_parse.specs.declared.stop.Stop.TheVariants as stop
 use Rattle.sq_parse.specs.declared.tree.Operand.{Operand}
-use Rattle.sq_parse.specs.declared.tree.Operand.TheVariants as o
-use Rattle.sq_parse.specs.declared.tree.Tree.{Tree}
 use Rattle.sq_parse.specs.declared.tree.Tree.TheVariants as t
 use Rattle.sq_parse.specs.Mark.{is, same, is_name, is_comparison}
-use Rattle.sq_parse.specs.Tok.{Tok, next, behind}
+use Rattle.sq_parse.specs.Tok.{Tok, next}
 use Rattle.sq_parse.specs.Tree.{begin_of, comparison_by}
 use Rattle.sq_parse.specs.Rules as rule
 use Rattle.sq_parse.specs.Rules.{◌⊗◌, ◌⊕◌, ◌⊛◌}
@@ -26,7 +22,8 @@ use Rattle.sq_parse.proofs.Loops.{Shrinks, Shrinks-exact}
 use Rattle.sq_parse.proofs.OperandsExact as operands_exact
 use Rattle.sq_parse.proofs.PredicatesExact.{compared_rest, null_rest, between_rest, within_rest, ranged_rest, subject_rest, with_subject, from_rest}
 use Rattle.sq_parse.proofs.Places.{view, next_same, next_seen}
-use Rattle.sq_parse.proofs.Tracks.{Faults, Tracks, any, unstarred, token, weaker, plainly, along, gives, followed, chained, after, either, maybe, list_of, enclosed, always, by_test, if_is, Moves, moves_gives, moves_then, moves_chain, falls, shrinks_by, again_at_once}
+use Rattle.sq_parse.proofs.Tracks.{Faults, Tracks, any, unstarred, token, along, gives, followed, chained, after, if_is}
+use Rattle.sq_parse.proofs.Choices.{plainly, either, maybe, list_of, enclosed, always, by_test, Moves, moves_gives, moves_then, moves_chain, falls, shrinks_by, again_at_once}
 use Rattle.sq_parse.proofs.OperandsTrack as operands
 use Rattle.sq_parse.proofs.OperandsTrack.{Full-name, Full-operand}
 

@@ -1,5 +1,5 @@
 -- What stands before the place where reading a script stops, and what the fault there depends on.
-use Rattle.std.proofs.Common.{◌≡◌, ◌≢◌, Bool, true, false, cond, ⊎_elim, ℕ, suc, ◌+◌, ◌<◌, ◌≤◌, List, [], ◌∷◌, ◌++◌, length, length-append, Ok, Err, refl, ap, ap₂, sym, subst, ◌∙◌, append-nil, arith}
+use Rattle.std.proofs.Common.{◌≡◌, ◌≢◌, true, false, ⊎_elim, ℕ, suc, ◌+◌, ◌≤◌, List, [], ◌∷◌, ◌++◌, length, length-append, Ok, Err, refl, ap, ap₂, sym, subst, ◌∙◌, append-nil, arith}
 use Rattle.sq_parse.specs.declared.mark.Mark.{Mark}
 use Rattle.sq_parse.specs.declared.mark.Mark.TheVariants as k
 use Rattle.sq_parse.specs.declared.stop.Stop.{Stop}

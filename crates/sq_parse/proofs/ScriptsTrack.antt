@@ -1,5 +1,5 @@
 -- Where the reader of scripts stops.
-use Rattle.std.proofs.Common.{◌≡◌, Bool, true, false, not, cond, ⊎_elim, ℕ, zero, suc, ◌<◌, ◌≤◌, List, [], ◌∷◌, ◌++◌, length, Option, Some, None, Ok, Err, refl, ap, sym, subst, ◌∙◌, append_assoc, append-nil, arith}
+use Rattle.std.proofs.Common.{◌≡◌, Bool, true, false, not, cond, ⊎_elim, ℕ, zero, suc, ◌<◌, ◌≤◌, List, [], ◌∷◌, ◌++◌, length, Some, None, Ok, Err, refl, ap, sym, subst, ◌∙◌, append_assoc, append-nil, arith}
 use Rattle.sq_parse.specs.declared.mark.Mark.{Mark}
 use Rattle.sq_parse.specs.declared.mark.Mark.TheVariants as k
 use Rattle.sq_parse.specs.declared.stop.Stop.{Stop}
@@ -7,7 +7,7 @@ use Rattle.sq_parse.specs.declared.stop.Stop.TheVariants as stop
 use Rattle.sq_parse.specs.declared.tree.Statement.{Statement}
 use Rattle.sq_parse.specs.declared.tree.Script.{Script}
 use Rattle.sq_parse.specs.Mark.{is, same}
-use Rattle.sq_parse.specs.Tok.{Tok, next, behind, done}
+use Rattle.sq_parse.specs.Tok.{Tok, next, done}
 use Rattle.sq_parse.specs.Rules as rule
 use Rattle.sq_parse.specs.Rules.{Then, ◌⊗◌, ◌⊕◌, ◌⊛◌}
 use Rattle.sq_parse.specs.Reading as reading
@@ -16,10 +16,11 @@ use Rattle.sq_parse.specs.Grammar as g
 use Rattle.sq_parse.specs.Grammar.{shipped}
 use Rattle.sq_parse.specs.Parse.{unlimited}
 use Rattle.sq_parse.specs.Reader as read
-use Rattle.sq_parse.proofs.Marks.{apart_at, all_within, within_self}
-use Rattle.sq_parse.proofs.Exact.{Chain, Err-Ok, if_ok}
-use Rattle.sq_parse.proofs.Places.{view, next_seen, done_same}
-use Rattle.sq_parse.proofs.Tracks.{Faults, Failed, Tracks, TracksWhen, Err-value, Ok-Err, if_is, any, unstarred, not_large, empty, token, plainly, along, along_when, gives, chained, nothing, always, chosen, chosen_by}
+use Rattle.sq_parse.proofs.Marks.{apart_at, within_self}
+use Rattle.sq_parse.proofs.Exact.{Chain, Err-Ok}
+use Rattle.sq_parse.proofs.Places.{next_seen, done_same}
+use Rattle.sq_parse.proofs.Tracks.{Faults, Failed, Tracks, Err-value, if_is, any, unstarred, not_large, token, along, gives, chained}
+use Rattle.sq_parse.proofs.Choices.{TracksWhen, empty, plainly, along_when, nothing, always, chosen, chosen_by}
 use Rattle.sq_parse.proofs.StatementsTrack as statements
 
 -- ---- what stands behind the first statement

@@ -1,29 +1,21 @@
 -- Where the readers of statements and scripts stop.
-use Rattle.std.proofs.Common.{◌≡◌, Bool, true, false, not, cond, inl, inr, ⊎_elim, ℕ, zero, suc, ◌<◌, ◌≤◌, List, [], ◌∷◌, ◌++◌, length, Option, Some, None, unwrap_or, Ok, Err, refl, ap, sym, subst, ◌∙◌, append_assoc, arith}
-use Rattle.sq_parse.specs.declared.mark.Mark.{Mark}
+use Rattle.std.proofs.Common.{◌≡◌, ℕ, ◌<◌, ◌≤◌, [], ◌∷◌, unwrap_or, refl}
 use Rattle.sq_parse.specs.declared.mark.Mark.TheVariants as k
-use Rattle.sq_parse.specs.declared.stop.Stop.{Stop}
 use Rattle.sq_parse.specs.declared.stop.Stop.TheVariants as stop
-use Rattle.sq_parse.specs.declared.tree.Statement.{Statement}
-use Rattle.sq_parse.specs.declared.tree.Script.{Script}
 use Rattle.sq_parse.specs.Mark.{is, same}
-use Rattle.sq_parse.specs.Tok.{Tok, next, behind, done}
 use Rattle.sq_parse.specs.Tree.{joined_on, statement_of}
 use Rattle.sq_parse.specs.Rules as rule
 use Rattle.sq_parse.specs.Rules.{Then, ◌⊗◌, ◌⊕◌, ◌⊛◌}
-use Rattle.sq_parse.specs.Reading as reading
-use Rattle.sq_parse.specs.Reading.{Parser, Outcome, ◌>>=◌, ◌<$>◌, ◌<+>◌}
 use Rattle.sq_parse.specs.Grammar as g
 use Rattle.sq_parse.specs.Grammar.{Limits, shipped}
 use Rattle.sq_parse.specs.Parse.{unlimited}
 use Rattle.sq_parse.specs.Reader as read
-use Rattle.sq_parse.proofs.Marks.{all_within, within_self}
-use Rattle.sq_parse.proofs.Exact.{Chain, Err-Ok, if_ok}
+use Rattle.sq_parse.proofs.Marks.{within_self}
 use Rattle.sq_parse.proofs.Loops.{Shrinks, Shrinks-exact}
 use Rattle.sq_parse.proofs.Shrinking.{nested, no_join}
 use Rattle.sq_parse.proofs.StatementsExact as statements_exact
-use Rattle.sq_parse.proofs.Places.{view, next_seen, done_same}
-use Rattle.sq_parse.proofs.Tracks.{Faults, Failed, Tracks, TracksWhen, Err-value, Ok-Err, if_is, any, unstarred, not_large, empty, token, weaker, plainly, along, gives, followed, chained, after, either, maybe, repeated, nothing, always, chosen, chosen_by}
+use Rattle.sq_parse.proofs.Tracks.{Faults, Tracks, any, unstarred, token, weaker, gives, followed, after}
+use Rattle.sq_parse.proofs.Choices.{plainly, either, maybe, repeated}
 use Rattle.sq_parse.proofs.ItemsTrack as items
 use Rattle.sq_parse.proofs.ConditionsTrack as conditions
 
