@@ -4,3 +4,4 @@ pub mod SumLemmas
 pub mod ReadLemmas
 pub mod WeakerLemmas
 pub mod ReadyLemmas
+pub mod OccurLemmas

@@ -96,7 +96,10 @@ fn evaluate<F: Predicates>(cond: &Cond, rows: &Chosen<'_>, functions: &F) -> Tru
         Cond::Not(part) => not(evaluate(part.get(), rows, functions)),
         Cond::All(parts) => least(parts.as_slice(), rows, functions),
         Cond::Any(parts) => greatest(parts.as_slice(), rows, functions),
-        Cond::Is(part, named) => two_valued(is_truth(evaluate(part.get(), rows, functions), *named)),
+        Cond::Is(part, named) => two_valued(is_truth(
+            evaluate(part.get(), rows, functions),
+            *named,
+        )),
     }
 }
 
