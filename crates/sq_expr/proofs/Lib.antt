@@ -5,3 +5,4 @@ pub mod ReadLemmas
 pub mod WeakerLemmas
 pub mod ReadyLemmas
 pub mod OccurLemmas
+pub mod ColumnLemmas
