@@ -2,7 +2,7 @@
 use Rattle.std.proofs.Common.{◌≡◌, ℕ, ◌<◌, List, [], ◌∷◌, ◌++◌, length, map, Option, Some, None, refl, ap, sym, subst, ◌∙◌, arith, get_or}
 use Rattle.std.specs.Prelude.{All, Contains, ⊤}
 use Rattle.std.specs.List.{concat, flat_map}
-use Rattle.std.proofs.lemmas.List.Elements.{All-map}
+use Rattle.std.proofs.lemmas.List.Elements.{All-map, All-head, All-tail}
 use Rattle.sq_value.specs.declared.value.Value.{Value}
 use Rattle.sq_value.specs.declared.value.Truth.{Truth}
 use Rattle.sq_value.specs.declared.value.ColType.{ColType}
@@ -18,6 +18,18 @@ use Rattle.sq_expr.specs.declared.cond.Cond.TheVariants as variants
 use Rattle.sq_expr.specs.Fits.{FitsHere, FitsSide, FitsArg, FitsTerm, aliases_of, aliases_at_level, side_aliases, arg_aliases}
 
 -- the aliases of a condition, case by case
+pub aliases_of-Compare : (x : Side) (how : Cmp) (y : Side) → aliases_of (variants.Compare x how y) ≡ side_aliases x ++ side_aliases y
+unfolding aliases_of
+aliases_of-Compare x how y = rw (fold_out-Cond (List ℕ) aliases_at_level (variants.Compare x how y), variants.outs-Compare x how y) refl
+
+pub aliases_of-IsNull : (x : Side) → aliases_of (variants.IsNull x) ≡ side_aliases x
+unfolding aliases_of
+aliases_of-IsNull x = rw (fold_out-Cond (List ℕ) aliases_at_level (variants.IsNull x), variants.outs-IsNull x) refl
+
+pub aliases_of-Call : (number : ℕ) (x y : Arg) → aliases_of (variants.Call number x y) ≡ arg_aliases x ++ arg_aliases y
+unfolding aliases_of
+aliases_of-Call number x y = rw (fold_out-Cond (List ℕ) aliases_at_level (variants.Call number x y), variants.outs-Call number x y) refl
+
 pub aliases_of-Not : (part : Cond) → aliases_of (variants.Not part) ≡ aliases_of part
 unfolding aliases_of
 aliases_of-Not part = rw (fold_out-Cond (List ℕ) aliases_at_level (variants.Not part), variants.outs-Not part) refl
@@ -25,6 +37,14 @@ aliases_of-Not part = rw (fold_out-Cond (List ℕ) aliases_at_level (variants.No
 pub aliases_of-All : (parts : List Cond) → aliases_of (variants.All parts) ≡ concat (map aliases_of parts)
 unfolding aliases_of
 aliases_of-All parts = rw (fold_out-Cond (List ℕ) aliases_at_level (variants.All parts), variants.outs-All parts) refl
+
+pub aliases_of-Any : (parts : List Cond) → aliases_of (variants.Any parts) ≡ concat (map aliases_of parts)
+unfolding aliases_of
+aliases_of-Any parts = rw (fold_out-Cond (List ℕ) aliases_at_level (variants.Any parts), variants.outs-Any parts) refl
+
+pub aliases_of-Is : (part : Cond) (named : Truth) → aliases_of (variants.Is part named) ≡ aliases_of part
+unfolding aliases_of
+aliases_of-Is part named = rw (fold_out-Cond (List ℕ) aliases_at_level (variants.Is part named), variants.outs-Is part named) refl
 
 module _ (Q : Cond-F Cond → Type 0) where
   -- a level whose parts come with facts, as the level of the parts alone
@@ -94,3 +114,38 @@ module _ (Q : Cond-F Cond → Type 0) where
   -- what holds of each level holds of the topmost one
   pub every-here : (c whole : Cond) (here : Cond-F Cond) → out-Cond whole ≡ here → c ≡ whole → every-Cond Q c → Q here
   every-here c whole here out is h = subst Q (ap out-Cond is ∙ out) (every_here-Cond Q c h)
+
+  -- a condition whose topmost level has the fact, and whose parts have it throughout
+  pub made-Compare : (x : Side) (how : Cmp) (y : Side) → Q (level.Compare x how y) → every-Cond Q (variants.Compare x how y)
+  made-Compare x how y q =
+      subst (every-Cond Q) (variants.rolls-Compare x how y) (every_made-Cond Q (level.Compare x how y) (level.Compare x how y) refl q)
+
+  pub made-IsNull : (x : Side) → Q (level.IsNull x) → every-Cond Q (variants.IsNull x)
+  made-IsNull x q = subst (every-Cond Q) (variants.rolls-IsNull x) (every_made-Cond Q (level.IsNull x) (level.IsNull x) refl q)
+
+  pub made-Call : (number : ℕ) (x y : Arg) → Q (level.Call number x y) → every-Cond Q (variants.Call number x y)
+  made-Call number x y q =
+      subst (every-Cond Q) (variants.rolls-Call number x y) (every_made-Cond Q (level.Call number x y) (level.Call number x y) refl q)
+
+  pub made-Not : (part : Cond) → every-Cond Q part → Q (level.Not part) → every-Cond Q (variants.Not part)
+  made-Not part h q = subst (every-Cond Q) (variants.rolls-Not part) (every_made-Cond Q (level.Not part) (level.Not (part, h)) refl q)
+
+  pub made-Is : (part : Cond) (named : Truth) → every-Cond Q part → Q (level.Is part named) → every-Cond Q (variants.Is part named)
+  made-Is part named h q =
+      subst (every-Cond Q) (variants.rolls-Is part named) (every_made-Cond Q (level.Is part named) (level.Is (part, h) named) refl q)
+
+  with_facts : (parts : List Cond) → All (every-Cond Q) parts → (zs : List ((z : Cond) × every-Cond Q z)) × (map (λ e. e.0) zs ≡ parts)
+  with_facts [] h = ([], refl)
+  with_facts (part ∷ parts) h =
+      let rest = with_facts parts (All-tail (every-Cond Q) part parts h) in
+      ((part, All-head (every-Cond Q) part parts h) ∷ rest.0, ap (λ (cs : List Cond). part ∷ cs) rest.1)
+
+  pub made-All : (parts : List Cond) → All (every-Cond Q) parts → Q (level.All parts) → every-Cond Q (variants.All parts)
+  made-All parts h q =
+      let zs = with_facts parts h in
+      subst (every-Cond Q) (variants.rolls-All parts) (every_made-Cond Q (level.All parts) (level.All zs.0) (ap level.All zs.1) q)
+
+  pub made-Any : (parts : List Cond) → All (every-Cond Q) parts → Q (level.Any parts) → every-Cond Q (variants.Any parts)
+  made-Any parts h q =
+      let zs = with_facts parts h in
+      subst (every-Cond Q) (variants.rolls-Any parts) (every_made-Cond Q (level.Any parts) (level.Any zs.0) (ap level.Any zs.1) q)

@@ -4,3 +4,5 @@ pub mod SumLemmas
 pub mod ReadLemmas
 pub mod WeakerLemmas
 pub mod ReadyLemmas
+pub mod OccurLemmas
+pub mod ColumnLemmas

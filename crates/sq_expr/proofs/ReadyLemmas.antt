@@ -9,9 +9,8 @@ use Rattle.sq_value.specs.declared.table.Column.{Column}
 use Rattle.sq_value.specs.declared.predicate.Kinds.{Kinds}
 use Rattle.sq_expr.specs.declared.cond.ColumnOf.{ColumnOf}
 use Rattle.sq_expr.specs.declared.cond.Cond.{Cond}
-use Rattle.sq_expr.specs.Equality.{IsInRange}
 use Rattle.sq_expr.specs.Fits.{FitsCond, Covers, HasRow, kind_in, column_kind, aliases_of}
-use Rattle.sq_expr.specs.Reading.{IsSeen, IsReady}
+use Rattle.sq_expr.specs.Reading.{IsInRange, IsSeen, IsReady}
 use Rattle.sq_expr.proofs.WeakerLemmas.{every-also}
 
 -- a column with a type stands in its table

@@ -27,9 +27,9 @@ one_alone : (a : ℕ) → Contains (a ∷ []) a
 one_alone a = (0, omega arith, refl)
 
 -- the aliases of one level of a condition
-at_level : (x : Cond-F Cond) → aliases_of (roll-Cond x) ≡ aliases_at_level (map-Cond Cond (List ℕ) aliases_of x)
+pub aliases-at_level : (x : Cond-F Cond) → aliases_of (roll-Cond x) ≡ aliases_at_level (map-Cond Cond (List ℕ) aliases_of x)
 unfolding aliases_of
-at_level x = fold-roll-Cond (List ℕ) aliases_at_level x
+aliases-at_level x = fold-roll-Cond (List ℕ) aliases_at_level x
 
 module _ (kinds : ℕ → Option Kinds) (has also : ColumnOf → ColType → Type 0) where
   -- where a column of these aliases is of a type by the first reading, it is by the second
@@ -47,14 +47,13 @@ module _ (kinds : ℕ → Option Kinds) (has also : ColumnOf → ColType → Typ
   side_also k side.Null p f = f
   side_also k (side.Text t) p f = f
   side_also k (side.Column c) p f = p c k (one_alone c.alias) f
-  side_also k (side.Sum terms) p f =
-      (
-        f.0,
-        f.1,
-        f.2,
-        λ j d h. term_also (get_or terms j d)
+  side_also k (side.Sum terms) p f = (
+    f.0,
+    f.1,
+    f.2,
+    λ j d h. term_also (get_or terms j d)
         (λ c k m. p c k (Contains-flat_map (λ (t : Term). term_aliases t.column) terms j d c.alias h m)) (f.3 j d h),
-      )
+  )
 
   arg_also : (k : ColType) (a : Arg) → Holds (arg_aliases a) → FitsArg has k a → FitsArg also k a
   arg_also k (arg.Literal v) p f = f
@@ -62,24 +61,22 @@ module _ (kinds : ℕ → Option Kinds) (has also : ColumnOf → ColType → Typ
 
   -- one level
   here_also : (x : Cond-F Cond) → Holds (aliases_at_level (map-Cond Cond (List ℕ) aliases_of x)) → FitsHere kinds has x → FitsHere kinds also x
-  here_also (level.Compare a how b) p f =
-      (
-        f.0,
-        (
-          side_also f.0 a (λ c k m. p c k (Contains-append_left (side_aliases a) (side_aliases b) c.alias m)) f.1.0,
-          side_also f.0 b (λ c k m. p c k (Contains-append_right (side_aliases a) (side_aliases b) c.alias m)) f.1.1,
-        ),
-      )
+  here_also (level.Compare a how b) p f = (
+    f.0,
+    (
+      side_also f.0 a (λ c k m. p c k (Contains-append_left (side_aliases a) (side_aliases b) c.alias m)) f.1.0,
+      side_also f.0 b (λ c k m. p c k (Contains-append_right (side_aliases a) (side_aliases b) c.alias m)) f.1.1,
+    ),
+  )
   here_also (level.IsNull a) p f = (f.0, side_also f.0 a p f.1)
   here_also (level.Call number a b) p f = by (kinds number) f
     where
       by : (o : Option Kinds) → IsSomeAnd o (λ k. FitsArg has k.first a × FitsArg has k.second b) → IsSomeAnd o (λ k. FitsArg also k.first a × FitsArg also k.second b)
       by None f = f
-      by (Some k) f =
-          (
-            arg_also k.first a (λ c j m. p c j (Contains-append_left (arg_aliases a) (arg_aliases b) c.alias m)) f.0,
-            arg_also k.second b (λ c j m. p c j (Contains-append_right (arg_aliases a) (arg_aliases b) c.alias m)) f.1,
-          )
+      by (Some k) f = (
+        arg_also k.first a (λ c j m. p c j (Contains-append_left (arg_aliases a) (arg_aliases b) c.alias m)) f.0,
+        arg_also k.second b (λ c j m. p c j (Contains-append_right (arg_aliases a) (arg_aliases b) c.alias m)) f.1,
+      )
   here_also (level.Not part) p f = f
   here_also (level.All parts) p f = f
   here_also (level.Any parts) p f = f
@@ -111,7 +108,7 @@ module _ (kinds : ℕ → Option Kinds) (has also : ColumnOf → ColType → Typ
   goes_here y h p =
       let x = part_of y in
       let top : FitsHere kinds has x = subst (FitsHere kinds has) (out-roll-Cond x) (every_here-Cond (FitsHere kinds has) (roll-Cond x) h) in
-      let over : Holds (aliases_at_level (map-Cond Cond (List ℕ) aliases_of x)) = subst Holds (at_level x) p in
+      let over : Holds (aliases_at_level (map-Cond Cond (List ℕ) aliases_of x)) = subst Holds (aliases-at_level x) p in
       by y h over (here_also x over top)
     where
       by : (y : Cond-F ((z : Cond) × Goes z)) → Before (roll-Cond (part_of y))

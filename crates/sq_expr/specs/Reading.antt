@@ -6,9 +6,15 @@ use Rattle.sq_value.specs.declared.value.Value.TheVariants as value
 use Rattle.sq_value.specs.declared.value.ColType.{ColType}
 use Rattle.sq_value.specs.declared.predicate.Kinds.{Kinds}
 use Rattle.sq_expr.specs.Fits.{kind_in, FitsHere}
-use Rattle.sq_expr.specs.Equality.{IsInRange}
 use Rattle.sq_expr.specs.declared.cond.ColumnOf.{ColumnOf}
 use Rattle.sq_expr.specs.declared.cond.Cond.{Cond, every-Cond}
+
+-- the column stands in the chosen row of its alias
+pub record IsInRange (tables : List Relation) (uses rows : List ℕ) (c : ColumnOf) : Type 0 where
+  pub alias : c.alias < 12
+  pub table : slice_index uses c.alias < length tables
+  pub row : (t : Relation) → slice_get tables (slice_index uses c.alias) ≡ Some t → slice_index rows c.alias < length t.rows
+  pub column : (t : Relation) → slice_get tables (slice_index uses c.alias) ≡ Some t → c.column < length t.columns
 
 -- a column of this type that stands in the chosen row of its alias
 pub record IsSeen (tables : List Relation) (uses rows : List ℕ) (c : ColumnOf) (k : ColType) : Type 0 where

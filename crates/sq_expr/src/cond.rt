@@ -2,7 +2,7 @@ ghost use Rattle.std.specs.Prelude.{◌≡◌, IfSome};
 ghost use Rattle.sq_value.specs.Relation.{HasKind};
 ghost use Rattle.sq_expr.specs.Meaning.{value_in};
 ghost use Rattle.sq_expr.specs.Fits.{kind_in};
-ghost use Rattle.sq_expr.specs.Equality.{IsInRange};
+ghost use Rattle.sq_expr.specs.Reading.{IsInRange};
 ghost use Rattle.sq_expr.specs.Plain as spec;
 
 use sq_value::{Cmp, SqText, Tables, Truth, Value};

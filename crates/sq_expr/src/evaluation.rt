@@ -1,42 +1,12 @@
 ghost use Rattle.std.specs.Prelude.{◌≡◌, All, map, IsSomeAnd};
-ghost use Rattle.sq_value.specs.Truth.{conjoined, disjoined, negated, is_truth};
+ghost use Rattle.sq_value.specs.Truth.{is_truth};
 ghost use Rattle.sq_expr.specs.Meaning.{truth_of, value_in, arg_value, least, greatest};
 ghost use Rattle.sq_expr.specs.Fits.{FitsCond, FitsArg, Covers};
 ghost use Rattle.sq_expr.specs.Reading.{IsSeen, IsReady};
 
 use crate::cond::{Arg, Chosen, Cond};
 use crate::operand::{argument, compare_sides, is_null, two_valued};
-use sq_value::{Predicates, Truth};
-
-fn and(x: Truth, y: Truth) -> Truth
-    ensures { result ≡ conjoined x y }
-{
-    match (x, y) {
-        (Truth::False, _) | (_, Truth::False) => Truth::False,
-        (Truth::True, Truth::True) => Truth::True,
-        _ => Truth::Unknown,
-    }
-}
-
-fn or(x: Truth, y: Truth) -> Truth
-    ensures { result ≡ disjoined x y }
-{
-    match (x, y) {
-        (Truth::True, _) | (_, Truth::True) => Truth::True,
-        (Truth::False, Truth::False) => Truth::False,
-        _ => Truth::Unknown,
-    }
-}
-
-fn not(x: Truth) -> Truth
-    ensures { result ≡ negated x }
-{
-    match x {
-        Truth::False => Truth::True,
-        Truth::Unknown => Truth::Unknown,
-        Truth::True => Truth::False,
-    }
-}
+use sq_value::{Predicates, Truth, and, not, or};
 
 fn is_truth(x: Truth, named: Truth) -> bool
     ensures { result ≡ is_truth x named }
@@ -96,7 +66,10 @@ fn evaluate<F: Predicates>(cond: &Cond, rows: &Chosen<'_>, functions: &F) -> Tru
         Cond::Not(part) => not(evaluate(part.get(), rows, functions)),
         Cond::All(parts) => least(parts.as_slice(), rows, functions),
         Cond::Any(parts) => greatest(parts.as_slice(), rows, functions),
-        Cond::Is(part, named) => two_valued(is_truth(evaluate(part.get(), rows, functions), *named)),
+        Cond::Is(part, named) => two_valued(is_truth(
+            evaluate(part.get(), rows, functions),
+            *named,
+        )),
     }
 }
 

@@ -9,5 +9,5 @@ invariant-loop-term l =
     record {
       rest : plus (value.Int l.sum) (sum_value at (drop l.term-index l.terms)) ≡ sum_value at l.terms;
       low : neg_ℤ (pos (2 ^ 94 * l.term-index)) ≤ℤ l.sum;
-      high : l.sum ≤ℤ pos (2 ^ 94 * l.term-index)
+      high : l.sum ≤ℤ pos (2 ^ 94 * l.term-index);
     }
