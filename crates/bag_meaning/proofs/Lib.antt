@@ -7,3 +7,4 @@ pub mod RisingLemmas
 pub mod PairLemmas
 pub mod AnswerLemmas
 mod WorkedRows
+pub mod NestedLemmas

@@ -1,3 +1,4 @@
 pub mod Bag
 pub mod Answer
 pub mod Credit
+pub mod Nested

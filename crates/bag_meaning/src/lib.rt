@@ -5,5 +5,7 @@
 #![tactic(auto)]
 
 mod combo;
+mod nested;
 
 pub use combo::{Built, Combo};
+pub use nested::{bag_law, plain};
