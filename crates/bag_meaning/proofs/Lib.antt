@@ -8,3 +8,4 @@ pub mod PairLemmas
 pub mod AnswerLemmas
 mod WorkedRows
 pub mod NestedLemmas
+mod SampleLemmas

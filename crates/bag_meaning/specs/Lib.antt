@@ -2,3 +2,4 @@ pub mod Bag
 pub mod Answer
 pub mod Credit
 pub mod Nested
+pub mod Samples

@@ -6,6 +6,8 @@
 
 mod combo;
 mod nested;
+#[cfg(test)]
+mod tests;
 
 pub use combo::{Built, Combo};
 pub use nested::{bag_law, plain};
