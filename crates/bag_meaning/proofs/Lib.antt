@@ -7,3 +7,5 @@ pub mod RisingLemmas
 pub mod PairLemmas
 pub mod AnswerLemmas
 mod WorkedRows
+pub mod NestedLemmas
+mod SampleLemmas

@@ -1,3 +1,5 @@
 pub mod Bag
 pub mod Answer
 pub mod Credit
+pub mod Nested
+pub mod Samples

@@ -5,5 +5,9 @@
 #![tactic(auto)]
 
 mod combo;
+mod nested;
+#[cfg(test)]
+mod tests;
 
 pub use combo::{Built, Combo};
+pub use nested::{bag_law, plain};

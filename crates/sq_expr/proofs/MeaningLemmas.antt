@@ -8,9 +8,10 @@ use Rattle.sq_value.specs.declared.value.Value.{Value}
 use Rattle.sq_value.specs.declared.value.Truth.{Truth}
 use Rattle.sq_value.specs.declared.value.Truth.TheVariants.{False, Unknown, True}
 use Rattle.sq_value.specs.declared.value.Cmp.{Cmp}
-use Rattle.sq_expr.specs.Meaning.{truth_of, truth_at_level, side_value, least, greatest}
+use Rattle.sq_expr.specs.Meaning.{truth_of, truth_at_level, side_value, arg_value, is_null, least, greatest}
 use Rattle.sq_expr.specs.declared.cond.ColumnOf.{ColumnOf}
 use Rattle.sq_expr.specs.declared.cond.Side.{Side}
+use Rattle.sq_expr.specs.declared.cond.Arg.{Arg}
 use Rattle.sq_expr.specs.declared.cond.Cond.{Cond, fold_out-Cond}
 use Rattle.sq_expr.specs.declared.cond.Cond.TheVariants.{Compare}
 use Rattle.sq_expr.specs.declared.cond.Cond.TheVariants as variants
@@ -21,6 +22,18 @@ pub truth_of-Compare : (gives : ℕ → Value → Value → Truth) (at : ColumnO
 unfolding truth_of
 truth_of-Compare gives at x how y =
     rw (fold_out-Cond Truth (truth_at_level gives at) (Compare x how y), variants.outs-Compare x how y) refl
+
+-- IS NULL asks whether its side is null, and a call is what the predicate gives
+pub truth_of-IsNull : (gives : ℕ → Value → Value → Truth) (at : ColumnOf → Value) (x : Side)
+    → truth_of gives at (variants.IsNull x) ≡ two_valued (is_null (side_value at x))
+unfolding truth_of
+truth_of-IsNull gives at x = rw (fold_out-Cond Truth (truth_at_level gives at) (variants.IsNull x), variants.outs-IsNull x) refl
+
+pub truth_of-Call : (gives : ℕ → Value → Value → Truth) (at : ColumnOf → Value) (number : ℕ) (x y : Arg)
+    → truth_of gives at (variants.Call number x y) ≡ gives number (arg_value at x) (arg_value at y)
+unfolding truth_of
+truth_of-Call gives at number x y =
+    rw (fold_out-Cond Truth (truth_at_level gives at) (variants.Call number x y), variants.outs-Call number x y) refl
 
 -- a conjunction is the least of its parts, and a disjunction the greatest
 pub truth_of-All : (gives : ℕ → Value → Value → Truth) (at : ColumnOf → Value) (parts : List Cond)

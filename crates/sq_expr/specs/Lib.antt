@@ -1,2 +1,5 @@
 pub mod Meaning
-pub mod Equality
+pub mod Fits
+pub mod Plain
+pub mod Reading
+pub mod Seen

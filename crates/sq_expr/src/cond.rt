@@ -1,10 +1,11 @@
-ghost use Rattle.std.specs.Prelude.{◌≡◌};
-ghost use Rattle.sq_expr.specs.Meaning.{truth_of, value_in};
-ghost use Rattle.sq_expr.specs.Equality.{IsInRange, IsColumnEquality};
-ghost use Rattle.sq_expr.specs.declared.cond.ColumnOf.{ColumnOf};
-ghost use Rattle.sq_expr.specs.declared.cond.Side.TheVariants as side;
+ghost use Rattle.std.specs.Prelude.{◌≡◌, IfSome};
+ghost use Rattle.sq_value.specs.Relation.{HasKind};
+ghost use Rattle.sq_expr.specs.Meaning.{value_in};
+ghost use Rattle.sq_expr.specs.Fits.{kind_in};
+ghost use Rattle.sq_expr.specs.Reading.{IsInRange};
+ghost use Rattle.sq_expr.specs.Plain as spec;
 
-use sq_value::{Cmp, Predicates, SqText, Tables, Truth, Value, compare};
+use sq_value::{Cmp, SqText, Tables, Truth, Value};
 use sqlite_items::{Boxed, Items};
 
 /// A column of an alias.
@@ -60,11 +61,12 @@ pub struct Chosen<'t> {
     pub span: u16,
 }
 
-impl Chosen<'_> {
+impl<'t> Chosen<'t> {
     // The value of a column of an alias, in the chosen row of the alias.
-    fn value(&self, column: ColumnOf) -> &Value
+    pub(crate) fn value(&self, column: ColumnOf) -> &'t Value
         requires { IsInRange self.now.tables.now self.now.uses self.now.rows column }
-        ensures { result.now ≡ value_in self.now.tables.now self.now.uses self.now.rows column }
+        ensures value { result.now ≡ value_in self.now.tables.now self.now.uses self.now.rows column }
+        ensures kind { IfSome (kind_in self.now.tables.now self.now.uses column) (λ k. HasKind k result.now) }
     {
         let alias = column.alias as usize;
         let table = self.tables.get(self.uses[alias]);
@@ -72,32 +74,25 @@ impl Chosen<'_> {
     }
 }
 
-impl Side {
-    // The column that this side is.
-    fn column(&self) -> ColumnOf
-        requires { (c : ColumnOf) × (self.now ≡ side.Column c) }
-        ensures { self.now ≡ side.Column result }
-    {
-        match self {
-            Side::Column(column) => *column,
-            _ => unreachable!(),
-        }
+// Whether these are the terms of one integer.
+fn is_literal(terms: &[Term]) -> bool
+    ensures { result ≡ spec.is_literal terms.now }
+{
+    match terms {
+        [term] => term.column.is_none(),
+        _ => false,
     }
 }
 
-impl Cond {
-    /// The truth of the condition over one row of each alias, by SQL-92's tables of three truth
-    /// values. It is evaluated for an equality of two columns, each of which stands in the chosen
-    /// row of its alias, with values of one type.
-    pub fn truth<F: Predicates>(&self, rows: &Chosen<'_>, _functions: &F) -> Truth
-        requires { IsColumnEquality rows.now.tables.now rows.now.uses rows.now.rows self.now }
-        ensures { result ≡ truth_of F.gives (value_in rows.now.tables.now rows.now.uses rows.now.rows) self.now }
+impl Side {
+    /// Whether the side stands for one value or one column, not for a computed one: it is Null, a
+    /// text, a column, or a sum of one term without a column.
+    pub fn plain(&self) -> bool
+        ensures { result ≡ spec.is_plain self.now }
     {
         match self {
-            Cond::Compare(left, cmp, right) => {
-                compare(rows.value(left.column()), rows.value(right.column()), *cmp)
-            }
-            _ => unreachable!(),
+            Side::Sum(terms) => is_literal(terms.as_slice()),
+            _ => true,
         }
     }
 }

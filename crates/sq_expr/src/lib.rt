@@ -6,6 +6,9 @@
 
 mod block;
 mod cond;
+mod evaluation;
+mod operand;
+mod sum;
 #[cfg(test)]
 mod tests;
 

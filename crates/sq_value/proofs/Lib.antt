@@ -1,2 +1,3 @@
 pub mod FlatLemmas
 pub mod NumeralLemmas
+pub mod OrderLemmas

@@ -4,3 +4,5 @@ pub mod Comparison
 pub mod Numeral
 pub mod Relation
 pub mod Flat
+pub mod Order
+pub mod Key

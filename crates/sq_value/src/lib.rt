@@ -5,8 +5,11 @@
 #![tactic(auto)]
 
 mod integer;
+mod key;
+mod logic;
 mod memory;
 mod name;
+mod order;
 mod predicate;
 mod table;
 mod tables;
@@ -16,8 +19,11 @@ mod text;
 mod value;
 
 pub use integer::{IntFault, read_int};
+pub use key::{Key, key_laws, key_of};
+pub use logic::{and, not, or};
 pub use memory::Memory;
 pub use name::same_name;
+pub use order::{sort_laws, sort_order};
 pub use predicate::{Kinds, NoPredicates, Predicates};
 pub use table::{Column, Table};
 pub use tables::Tables;

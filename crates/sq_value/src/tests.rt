@@ -4,10 +4,12 @@ ghost use Rattle.sq_value.specs.Comparison.{Comparable};
 
 use crate::Truth::{False, True, Unknown};
 use crate::{
-    Cmp, ColType, Column, IntFault, Kinds, Memory, NoPredicates, Predicates, SqText, Table, Tables,
-    Truth, Value, compare, read_int, same_name,
+    Cmp, ColType, Column, IntFault, Key, Kinds, Memory, NoPredicates, Predicates, SortWay, SqText,
+    Table, Tables, Truth, Value, and, compare, key_of, not, or, read_int, same_name, sort_order,
 };
 use std::alloc::Global;
+use std::cmp::Ordering::{self, Equal, Greater, Less};
+use std::hash::{DefaultHasher, Hash, Hasher};
 use std::test::Fail;
 
 /// The truths of x = y, x <> y, x < y, x <= y, x > y and x >= y.
@@ -71,6 +73,110 @@ fn texts_compare_by_bytes(rt: HostRuntime) -> Result<(), Fail> {
             "of {x} and {y}"
         );
     }
+    Ok(())
+}
+
+#[test]
+fn truths_are_joined(rt: HostRuntime) {
+    let cases = [
+        (True, True, True, True),
+        (True, Unknown, Unknown, True),
+        (True, False, False, True),
+        (Unknown, True, Unknown, True),
+        (Unknown, Unknown, Unknown, Unknown),
+        (Unknown, False, False, Unknown),
+        (False, True, False, True),
+        (False, Unknown, False, Unknown),
+        (False, False, False, False),
+    ];
+    for (x, y, both, either) in cases {
+        assert_eq!(rt; and(x, y), both, "of {x:?} and {y:?}");
+        assert_eq!(rt; or(x, y), either, "of {x:?} or {y:?}");
+    }
+    assert_eq!(rt;
+        [not(True), not(Unknown), not(False)],
+        [False, Unknown, True]
+    );
+}
+
+/// The orders of null and null, null and 1, 1 and null, -2 and 1, b and a, a and ab.
+fn orders(alloc: Global, descending: bool, nulls_first: bool) -> Result<[Ordering; 6], Memory> {
+    let way = SortWay {
+        descending,
+        nulls_first,
+    };
+    let a = Value::Text(SqText::of(alloc, "a")?);
+    let ab = Value::Text(SqText::of(alloc, "ab")?);
+    let b = Value::Text(SqText::of(alloc, "b")?);
+    let one = Value::Int(1);
+    Ok([
+        sort_order(&Value::Null, &Value::Null, way),
+        sort_order(&Value::Null, &one, way),
+        sort_order(&one, &Value::Null, way),
+        sort_order(&Value::Int(-2), &one, way),
+        sort_order(&b, &a, way),
+        sort_order(&a, &ab, way),
+    ])
+}
+
+#[test]
+fn values_are_sorted(rt: HostRuntime) -> Result<(), Fail> {
+    let cases = [
+        (false, true, [Equal, Less, Greater, Less, Greater, Less]),
+        (false, false, [Equal, Greater, Less, Less, Greater, Less]),
+        (true, true, [Equal, Less, Greater, Greater, Less, Greater]),
+        (true, false, [Equal, Greater, Less, Greater, Less, Greater]),
+    ];
+    for (descending, nulls_first, wanted) in cases {
+        assert_eq!(rt;
+            orders(rt.alloc(), descending, nulls_first)?,
+            wanted,
+            "with {descending} and {nulls_first}"
+        );
+    }
+    Ok(())
+}
+
+/// The hash of a value, by the standard library's hasher.
+fn hash_of<T: Hash>(value: &T) -> u64 {
+    let mut state = DefaultHasher::new();
+    value.hash(&mut state);
+    state.finish()
+}
+
+/// The order of two values, through `Ord` alone.
+fn ordered<T: Ord>(x: &T, y: &T) -> Ordering {
+    x.cmp(y)
+}
+
+#[test]
+fn keys_stand_for_values(rt: HostRuntime) -> Result<(), Fail> {
+    let alloc = rt.alloc();
+    let name = Value::Text(SqText::of(alloc, "né")?);
+    assert_eq!(rt; key_of(&Value::Null), None);
+    assert_eq!(rt; key_of(&Value::Int(-5)), Some(Key::Int(-5)));
+    assert_eq!(rt; key_of(&name), Some(Key::Text("né")));
+    let cases = [
+        (Key::Int(2), Key::Int(10), Less),
+        (Key::Int(-1), Key::Int(0), Less),
+        (Key::Int(7), Key::Int(7), Equal),
+        (Key::Text("b"), Key::Text("aa"), Greater),
+        (Key::Text("a"), Key::Text("aa"), Less),
+        (Key::Text("é"), Key::Text("z"), Greater),
+        (Key::Text("né"), Key::Text("né"), Equal),
+        (Key::Int(9), Key::Text("1"), Less),
+    ];
+    for (x, y, order) in cases {
+        assert_eq!(rt; ordered(&x, &y), order, "of {x:?} and {y:?}");
+        assert_eq!(rt; x == y, order == Equal, "of {x:?} and {y:?}");
+    }
+    let copy = String::from_str(alloc, "né")?;
+    assert_eq!(rt; key_of(&name), Some(Key::Text(copy.as_str())));
+    assert_eq!(rt;
+        hash_of(&key_of(&name)),
+        hash_of(&Some(Key::Text(copy.as_str())))
+    );
+    crosses_threads(&Key::Int(1));
     Ok(())
 }
 
