@@ -3,6 +3,7 @@ pub mod BindingLemmas
 pub mod ScriptLemmas
 pub mod WordsLemmas
 pub mod OutcomeLemmas
+pub mod ScriptTextLemmas
 pub mod PlanLemmas
 pub mod RecordLemmas
 pub mod FieldLemmas

@@ -8,7 +8,6 @@ use Rattle.std.proofs.lemmas.Bool.{lt-ltb, ltb-true, cases_lt}
 use Rattle.outside.specs.Files.{File, lookup, Gives, Lacks}
 use Rattle.sq_value.specs.Relation.{Relation}
 use Rattle.eddyql.specs.Words.{TableWord, table_of_word}
-use Rattle.eddyql.specs.Script.{JoinQuery, early_script}
 use Rattle.eddyql.specs.TableText.{early_table, table_of_records, column_of, integer_of}
 use Rattle.eddyql.specs.Outcome.{◌>>=◌, or_refuse, table_read, tables_read, ReachedTable}
 use Rattle.eddyql.specs.Loaded.{LoadRefused, IsIntegerTable}
@@ -36,14 +35,6 @@ early_table-front xs = by (cases_lt 67108864 (length xs))
     by : (67108864 < length xs) ⊎ (length xs ≤ 67108864) → early_table (take 67108865 xs) ≡ early_table xs
     by (inl h) = rw (front_of_long xs h, lt-ltb 67108864 (length xs) h, or-true, or-true) refl
     by (inr h) = ap early_table (take_all 67108865 xs (omega arith))
-
-pub early_script-front : (tables : List TableWord) (xs : List ℕ) → early_script tables (take 67108865 xs) ≡ early_script tables xs
-unfolding early_script
-early_script-front tables xs = by (cases_lt 67108864 (length xs))
-  where
-    by : (67108864 < length xs) ⊎ (length xs ≤ 67108864) → early_script tables (take 67108865 xs) ≡ early_script tables xs
-    by (inl h) = rw (front_of_long xs h, lt-ltb 67108864 (length xs) h) refl
-    by (inr h) = ap (early_script tables) (take_all 67108865 xs (omega arith))
 
 -- a refusal of a first step is the refusal of what begins with it
 pub MayRefuse-first : {A B : Type 0} (reads : FileOf → Type 0) (first : Result A Status) (more : A → Result B Status) (s : Status)

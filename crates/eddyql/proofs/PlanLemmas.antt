@@ -6,6 +6,7 @@ use Rattle.std.proofs.lemmas.Bool.{ltb-true, lt-ltb}
 use Rattle.std.proofs.lemmas.Option.{slice_get-get_or, get_or_from_slice_get, slice_get_within}
 use Rattle.std.proofs.lemmas.List.Elements.{All-nil, All-cons, All-append, All-weaker, All-get_or}
 use Rattle.outside.specs.Files.{File, lookup, Gives, Lacks}
+use Rattle.sq_parse.specs.declared.parser.ParseFault.{ParseFault}
 use Rattle.sq_value.specs.Relation.{Relation}
 use Rattle.sq_value.specs.Name.{is_same_name}
 use Rattle.sq_value.specs.declared.table.Column.{Column}
@@ -14,12 +15,13 @@ use Rattle.sq_expr.specs.declared.block.Block.{Block}
 use Rattle.sq_expr.specs.declared.block.OutCol.{OutCol}
 use Rattle.bag_meaning.specs.Bag.{uses_of}
 use Rattle.eddyql.specs.Words.{TableWord, Command}
-use Rattle.eddyql.specs.Script.{JoinQuery, early_script}
+use Rattle.eddyql.specs.Script.{JoinQuery}
+use Rattle.eddyql.specs.ScriptText.{read_of}
 use Rattle.eddyql.specs.Join.{IsJoin}
 use Rattle.eddyql.specs.Writing.{IsOutput}
 use Rattle.eddyql.specs.Runnable.{IsRunnable}
 use Rattle.eddyql.specs.Binding.{columns_of, column_named, block_of, block_with, block_between}
-use Rattle.eddyql.specs.Outcome.{◌>>=◌, or_refuse, query_read, tables_read, columns_at, block_bound, plan_of, Reached, ReachedTable}
+use Rattle.eddyql.specs.Outcome.{◌>>=◌, or_refuse, join_read, query_read, tables_read, columns_at, block_bound, plan_of, Reached, ReachedTable}
 use Rattle.eddyql.specs.Refusal.{MayRefuse, never}
 use Rattle.eddyql.specs.Loaded.{LoadRefused, IsIntegerTable}
 use Rattle.eddyql.specs.declared.plan.Plan.{Plan}
@@ -27,29 +29,24 @@ use Rattle.eddyql.specs.declared.status.Status.{Status}
 use Rattle.eddyql.specs.declared.status.Status.TheVariants as status
 use Rattle.eddyql.specs.declared.status.FileOf.{FileOf}
 use Rattle.eddyql.specs.declared.status.FileOf.TheVariants as file
-use Rattle.eddyql.specs.declared.status.ParseFault.TheVariants.{Syntax}
 use Rattle.eddyql.specs.declared.status.BindFault.TheVariants.{UnknownColumn}
-use Rattle.eddyql.proofs.OutcomeLemmas.{early_script-front, MayRefuse-first, MayRefuse-same}
-
--- the refusal of a script that isn't in form
-abbrev pub no_script : Status
-no_script = status.Script (Syntax 0)
+use Rattle.eddyql.proofs.OutcomeLemmas.{MayRefuse-first, MayRefuse-same}
+use Rattle.eddyql.proofs.ScriptTextLemmas.{join_read-front, join_read-fault}
 
 -- a script that was loaded is there, and the join of its front is that of the script
 pub query_read-loaded : (c : Command) (files : List File) (held : Option (List File)) (bytes : List ℕ)
-    → held ≡ Some files → Gives held c.script 67108865 bytes → or_refuse no_script (early_script c.tables bytes) ≡ query_read c files
+    → held ≡ Some files → Gives held c.script 67108865 bytes → join_read c.tables bytes ≡ query_read c files
 query_read-loaded c files held bytes told gives = by (lookup files c.script) given
   where
     given : option_map (take 67108865) (lookup files c.script) ≡ Some bytes
     given = subst (λ (o : Option (List File)). Gives o c.script 67108865 bytes) told gives
 
     by : (found : Option (List ℕ)) → option_map (take 67108865) found ≡ Some bytes
-        → or_refuse no_script (early_script c.tables bytes)
-        ≡ (or_refuse (status.NotFound file.Script) found >>= (λ text. or_refuse no_script (early_script c.tables text)))
+        → join_read c.tables bytes ≡ (or_refuse (status.NotFound file.Script) found >>= (λ text. join_read c.tables text))
     by None e = absurd cc
     by (Some xs) e =
         let same : take 67108865 xs ≡ bytes = cc in
-        ap (λ (o : Option JoinQuery). or_refuse no_script o) (ap (early_script c.tables) (sym same) ∙ early_script-front c.tables xs)
+        ap (join_read c.tables) (sym same) ∙ join_read-front c.tables xs
 
 -- why a script wasn't loaded
 pub query_read-refused : (c : Command) (files : List File) (held : Option (List File)) (rose : Type 0) (reads : FileOf → Type 0) (s : Status)
@@ -75,6 +72,14 @@ pub plan_of-tables : (c : Command) (files : List File) (q : JoinQuery) (tables :
     → tables_read 0 files c.tables ≡ Ok tables → plan_of c files ≡ behind_tables q tables
 plan_of-tables c files q tables e f =
     plan_of-query c files q e ∙ ap (λ (r : Result (List Relation) Status). r >>= (λ ts. behind_tables q ts)) f
+
+-- a script that is refused by its fault
+pub plan_of-script_fault : (c : Command) (files : List File) (text : List ℕ) (fault : ParseFault) → lookup files c.script ≡ Some text → length text ≤ 67108864
+    → read_of text ≡ Err fault → plan_of c files ≡ Err (status.Script fault)
+unfolding plan_of
+plan_of-script_fault c files text fault found short e =
+    ap (λ (o : Option (List ℕ)). (or_refuse (status.NotFound file.Script) o >>= (λ z. join_read c.tables z)) >>= (λ query. behind_query query c files)) found
+    ∙ ap (λ (r : Result JoinQuery Status). r >>= (λ query. behind_query query c files)) (join_read-fault c.tables text fault short e)
 
 -- a refusal of the script is that of the plan
 pub plan_refused-query : (c : Command) (files : List File) (reads : FileOf → Type 0) (s : Status) → MayRefuse reads (query_read c files) s → MayRefuse reads (plan_of c files) s
@@ -213,19 +218,17 @@ IsRunnable-bound q tables block e integers h k =
 
 -- the join of a script that was loaded
 pub query_found : (c : Command) (files : List File) (held : Option (List File)) (bytes text : List ℕ) (q : JoinQuery) → held ≡ Some files
-    → Gives held c.script 67108865 bytes → text ≡ bytes → early_script c.tables text ≡ Some q → query_read c files ≡ Ok q
+    → Gives held c.script 67108865 bytes → text ≡ bytes → join_read c.tables text ≡ Ok q → query_read c files ≡ Ok q
 query_found c files held bytes text q told gives same e =
-    sym (query_read-loaded c files held bytes told gives)
-    ∙ ap (λ (xs : List ℕ). or_refuse no_script (early_script c.tables xs)) (sym same) ∙ ap (or_refuse no_script) e
+    sym (query_read-loaded c files held bytes told gives) ∙ ap (join_read c.tables) (sym same) ∙ e
 
 -- the refusal of a script that was loaded
 pub query_refused : (c : Command) (files : List File) (held : Option (List File)) (bytes text : List ℕ) (reads : FileOf → Type 0) (s : Status) → held ≡ Some files
-    → Gives held c.script 67108865 bytes → text ≡ bytes → MayRefuse never (or_refuse no_script (early_script c.tables text)) s
+    → Gives held c.script 67108865 bytes → text ≡ bytes → MayRefuse never (join_read c.tables text) s
     → MayRefuse reads (plan_of c files) s
 query_refused c files held bytes text reads s told gives same h =
     plan_refused-query c files reads s
-    (MayRefuse-same never reads _ _ s
-    (ap (λ (xs : List ℕ). or_refuse no_script (early_script c.tables xs)) same ∙ query_read-loaded c files held bytes told gives) (λ g (r : ⊥). absurd r) h)
+    (MayRefuse-same never reads _ _ s (ap (join_read c.tables) same ∙ query_read-loaded c files held bytes told gives) (λ g (r : ⊥). absurd r) h)
 
 -- the plan of a block that was bound
 pub plan_found : (c : Command) (files : List File) (q : JoinQuery) (tables : List Relation) (block : Block) → query_read c files ≡ Ok q

@@ -4,12 +4,14 @@ use Rattle.std.specs.Prelude.{All, is_some}
 use Rattle.std.proofs.lemmas.List.{length-map, get_or-map}
 use Rattle.std.proofs.lemmas.Bool.{false≢true}
 use Rattle.outside.specs.Files.{File}
+use Rattle.sq_parse.specs.declared.parser.ParseFault.{ParseFault}
 use Rattle.sq_value.specs.Relation.{Relation}
 use Rattle.sq_expr.specs.declared.block.Block.{Block}
 use Rattle.bag_meaning.specs.Bag.{bag, uses_of}
 use Rattle.bag_meaning.specs.declared.combo.Combo.{Combo}
 use Rattle.bag_meaning.proofs.ProductRange.{IsCombination, bag-in_range}
 use Rattle.eddyql.specs.Words.{Command, command, table_of_word}
+use Rattle.eddyql.specs.ScriptText.{HasScript, read_of}
 use Rattle.eddyql.specs.Join.{IsJoin, no_meaning}
 use Rattle.eddyql.specs.Writing.{HasRows, rows_of_combo}
 use Rattle.eddyql.specs.Outcome.{◌>>=◌, or_refuse, plan_of, outcome, text_of, Reached, ReachedBy}
@@ -21,6 +23,7 @@ use Rattle.eddyql.specs.declared.plan.Plan.{Plan}
 use Rattle.eddyql.specs.declared.status.Status.{Status}
 use Rattle.eddyql.specs.declared.status.Status.TheVariants as status
 use Rattle.eddyql.proofs.WordsLemmas.{IsCommand, IsCommand-from_command}
+use Rattle.eddyql.proofs.PlanLemmas.{plan_of-script_fault}
 
 -- a join has two aliases
 two_aliases : (block : Block) (tables : List Relation) → IsJoin block tables → length block.aliases ≡ 2
@@ -83,6 +86,17 @@ pub outcome-usage : (words : List (List ℕ)) (files : List File) → command wo
 unfolding outcome
 outcome-usage words files e = rw e refl
 
+-- a script that is refused by its fault
+pub outcome-script_fault : (words : List (List ℕ)) (files : List File) (text : List ℕ) (fault : ParseFault) → HasScript words files text → read_of text ≡ Err fault
+    → outcome words files ≡ Err (status.Script fault)
+outcome-script_fault words files text fault h e =
+    outcome-plan words h.asked files h.in_form
+    ∙ ap (λ (r : Result Plan Status). r >>= (λ p. Ok (text_of p))) (plan_of-script_fault h.asked files text fault h.found h.short e)
+
+-- words that aren't in form have no script
+pub no_script : (words : List (List ℕ)) (files : List File) (text : List ℕ) → command words ≡ None → HasScript words files text → ⊥
+no_script words files text e h = let both : ◌≡◌ {A = Option Command} None (Some h.asked) = sym e ∙ h.in_form in cc
+
 -- a refusal before the output ends a run so
 pub MayEnd-early : (words : List (List ℕ)) (c : Command) (files : List File) (reads : FileOf → Type 0) (writes told : Type 0) (s : Status) → command words ≡ Some c → IsEarly told s
     → MayRefuse reads (plan_of c files) s → MayEnd reads writes (outcome words files) s
@@ -116,6 +130,26 @@ ends_by_outcome reads writes due (status.Script f) h a b = inl (sym (ap status_o
 ends_by_outcome reads writes due (status.Bind n f) h a b = inl (sym (ap status_of h))
 ends_by_outcome reads writes due (status.BadTable n f) h a b = inl (sym (ap status_of h))
 ends_by_outcome reads writes due (status.NotFound f) h a b = inl (sym (ap status_of h))
+
+-- where a script is refused by its fault and no file has a read fault, a run ends by that fault or for want of memory
+ends_by_fault : (reads : FileOf → Type 0) (writes : Type 0) (fault : ParseFault) (s : Status) → MayEnd reads writes (Err (status.Script fault)) s
+    → ((f : FileOf) → ¬ (reads f)) → (s ≡ status.Script fault) ⊎ (s ≡ status.Memory)
+ends_by_fault reads writes fault status.Done h a = absurd (false≢true h)
+ends_by_fault reads writes fault status.Write h a = absurd (false≢true h.1)
+ends_by_fault reads writes fault (status.Read f) h a = absurd (a f h)
+ends_by_fault reads writes fault status.Memory h a = inr refl
+ends_by_fault reads writes fault status.Usage h a = absurd cc
+ends_by_fault reads writes fault (status.Script f) h a = inl cc
+ends_by_fault reads writes fault (status.Bind n f) h a = absurd cc
+ends_by_fault reads writes fault (status.BadTable n f) h a = absurd cc
+ends_by_fault reads writes fault (status.NotFound f) h a = absurd cc
+
+pub ends_by_script_fault : (words : List (List ℕ)) (files : List File) (text : List ℕ) (fault : ParseFault) (reads : FileOf → Type 0) (writes : Type 0) (s : Status)
+    → HasScript words files text → read_of text ≡ Err fault → MayEnd reads writes (outcome words files) s → ((f : FileOf) → ¬ (reads f))
+    → (s ≡ status.Script fault) ⊎ (s ≡ status.Memory)
+ends_by_script_fault words files text fault reads writes s has e h calm =
+    ends_by_fault reads writes fault s
+    (subst (λ (due : Result (List ℕ) Status). MayEnd reads writes due s) (outcome-script_fault words files text fault has e) h) calm
 
 -- a run whose text is due ends by a step that writes
 pub MayEnd-late : (reads : FileOf → Type 0) (rises : Type 0) (due : Result (List ℕ) Status) (text : List ℕ) (s : Status) → due ≡ Ok text → IsLate s

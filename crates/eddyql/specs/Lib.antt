@@ -1,6 +1,7 @@
 pub mod Code
 pub mod Words
 pub mod Script
+pub mod ScriptText
 pub mod Seen
 pub mod TableText
 pub mod Join

@@ -1,5 +1,5 @@
 -- What a run must answer: the outcome of words over files is the text of the answer, or the first refusal.
-use Rattle.std.specs.Prelude.{◌≡◌, ℕ, ◌+◌, List, [], ◌∷◌, take, Option, Some, None, Result, Ok, Err, IsOk, slice_get, ⊤}
+use Rattle.std.specs.Prelude.{◌≡◌, ℕ, ◌+◌, nat_lt, List, [], ◌∷◌, length, take, Option, Some, None, Result, Ok, Err, IsOk, slice_get, if◌then◌else◌, ⊤}
 use Rattle.std.specs.Option.{option_map_or}
 use Rattle.sq_value.specs.Relation.{Relation}
 use Rattle.sq_value.specs.declared.table.Column.{Column}
@@ -7,8 +7,10 @@ use Rattle.sq_expr.specs.declared.block.Block.{Block}
 use Rattle.bag_meaning.specs.Bag.{bag}
 use Rattle.bag_meaning.specs.Answer.{answer_text}
 use Rattle.outside.specs.Files.{File, lookup}
+use Rattle.sq_parse.specs.declared.parser.ParseFault.TheVariants.{Syntax}
 use Rattle.eddyql.specs.Words.{TableWord, Command, command}
 use Rattle.eddyql.specs.Script.{JoinQuery, early_script}
+use Rattle.eddyql.specs.ScriptText.{read_of, or_fault}
 use Rattle.eddyql.specs.TableText.{early_table}
 use Rattle.eddyql.specs.Join.{no_meaning}
 use Rattle.eddyql.specs.Binding.{block_of}
@@ -17,7 +19,6 @@ use Rattle.eddyql.specs.declared.status.Status.{Status}
 use Rattle.eddyql.specs.declared.status.Status.TheVariants as status
 use Rattle.eddyql.specs.declared.status.FileOf.{FileOf}
 use Rattle.eddyql.specs.declared.status.FileOf.TheVariants as file
-use Rattle.eddyql.specs.declared.status.ParseFault.TheVariants.{Syntax}
 use Rattle.eddyql.specs.declared.status.TableFault.TheVariants.{NoHeading}
 use Rattle.eddyql.specs.declared.status.BindFault.TheVariants.{UnknownColumn}
 
@@ -46,11 +47,21 @@ tables_read number files (t ∷ ts) = do
   tables ← tables_read (number + 1) files ts
   Ok (table ∷ tables)
 
+-- the join that a text asks for over these tables: it spells a script, and that is in the early form
+abbrev pub join_spelled : List TableWord → List ℕ → Result JoinQuery Status
+join_spelled tables text = do
+  script ← or_fault (read_of text)
+  or_refuse (status.Script (Syntax 0)) (early_script tables text)
+
+-- the same, where the text has at most 67,108,864 bytes; a longer one isn't read
+unfoldable pub join_read : List TableWord → List ℕ → Result JoinQuery Status
+join_read tables text = if nat_lt 67108864 (length text) then Err (status.Script (Syntax 0)) else join_spelled tables text
+
 -- the join that the script of a command asks for
 abbrev pub query_read : Command → List File → Result JoinQuery Status
 query_read c files = do
   text ← or_refuse (status.NotFound file.Script) (lookup files c.script)
-  or_refuse (status.Script (Syntax 0)) (early_script c.tables text)
+  join_read c.tables text
 
 -- the columns of a table
 abbrev pub columns_at : List Relation → ℕ → List Column

@@ -1,7 +1,7 @@
-//! From files to a plan: the script is read first, then the tables in order, then the columns are
-//! bound.
+//! From files to a plan: the script is parsed and read first, then the tables in order, then the
+//! columns are bound.
 
-ghost use Rattle.std.specs.Prelude.{◌≡◌, ◌<◌, ◌≤◌, ℕ, List, Some, None, Ok, IsSome, IfOk, IfErr, OnOk, All, map, length};
+ghost use Rattle.std.specs.Prelude.{◌≡◌, ◌<◌, ◌≤◌, ℕ, List, Some, None, Ok, IsSome, IsOk, IfOk, IfErr, OnOk, All, map, length};
 ghost use Rattle.std.specs.String.{string_bytes};
 ghost use Rattle.sq_value.specs.Relation.{Relation};
 ghost use Rattle.outside.specs.Files.{File};
@@ -9,26 +9,56 @@ ghost use Rattle.outside.specs.Faults.{NeverFalls, Rose};
 ghost use Rattle.eddyql.specs.Words.{table_of_word};
 ghost use Rattle.eddyql.specs.Script.{early_script};
 ghost use Rattle.eddyql.specs.Seen.{join_seen};
-ghost use Rattle.eddyql.specs.Outcome.{or_refuse, block_bound, plan_of, Reached};
+ghost use Rattle.eddyql.specs.ScriptText as text_spec;
+ghost use Rattle.eddyql.specs.Outcome.{or_refuse, join_read, block_bound, plan_of, Reached};
 ghost use Rattle.eddyql.specs.Refusal.{MayRefuse, IsEarly, never};
 ghost use Rattle.eddyql.specs.Loaded.{IsIntegerTable};
 ghost use Rattle.eddyql.specs.Runnable.{IsRunnable};
 ghost use Rattle.eddyql.specs.declared.status.FileOf.{FileOf};
 ghost use Rattle.eddyql.specs.declared.status.Status.TheVariants as status;
-ghost use Rattle.eddyql.specs.declared.status.ParseFault.TheVariants.{Syntax};
+ghost use Rattle.sq_parse.specs.declared.parser.ParseFault.TheVariants.{Syntax};
 
 use crate::binding::bind;
 use crate::loading::{load, load_tables};
 use crate::plan::Plan;
-use crate::script::{JoinQuery, read_script};
+use crate::script::{JoinQuery, MAX_BYTES, read_script};
 use crate::status::{BindFault, FileOf, ParseFault, Status};
 use outside::Folder;
 use sq_expr::Block;
+use sq_parse::parse;
 use sq_value::Tables;
 use std::alloc::Global;
 
-// The join that a script asks for.
-fn find_query<'s>(alloc: Global, tables: &[String], text: &'s [u8]) -> Result<JoinQuery<'s>, Status>
+// The refusal of a script that is none, or isn't in the early form.
+const NO_JOIN: Status = Status::Script {
+    fault: ParseFault::Syntax { at: 0 },
+};
+
+// The refusal of a script by a fault.
+fn refusal_of(fault: ParseFault) -> Status
+    ensures { result ≡ text_spec.refusal_of fault }
+{
+    match fault {
+        ParseFault::Memory => Status::Memory,
+        _ => Status::Script { fault },
+    }
+}
+
+// Parses a text, so that only a script is read further. Its tree is dropped.
+fn check_script(alloc: Global, text: &[u8]) -> Result<(), Status>
+    requires { length text.now ≤ 67108864 }
+    ensures ok { IfOk result (λ done. IsOk (text_spec.read_of text.now)) }
+    ensures refused { IfErr result (MayRefuse never (text_spec.or_fault (text_spec.read_of text.now))) }
+    ensures early { IfErr result (IsEarly ⊥) }
+{
+    match parse(alloc, text) {
+        Ok(_script) => Ok(()),
+        Err(fault) => Err(refusal_of(fault)),
+    }
+}
+
+// The join that a text in the early form asks for.
+fn early_join<'s>(alloc: Global, tables: &[String], text: &'s [u8]) -> Result<JoinQuery<'s>, Status>
     ensures ok { IfOk result (λ query. early_script (map table_of_word (map string_bytes tables.now)) text.now ≡ Some (join_seen query)) }
     ensures left { IfOk result (λ query. query.left < length tables.now) }
     ensures right { IfOk result (λ query. query.right < length tables.now) }
@@ -37,11 +67,24 @@ fn find_query<'s>(alloc: Global, tables: &[String], text: &'s [u8]) -> Result<Jo
 {
     match read_script(alloc, tables, text) {
         Ok(Some(query)) => Ok(query),
-        Ok(None) => Err(Status::Script {
-            fault: ParseFault::Syntax { at: 0 },
-        }),
+        Ok(None) => Err(NO_JOIN),
         Err(_) => Err(Status::Memory),
     }
+}
+
+// The join that the text of a script asks for.
+fn find_query<'s>(alloc: Global, tables: &[String], text: &'s [u8]) -> Result<JoinQuery<'s>, Status>
+    ensures ok { IfOk result (λ query. join_read (map table_of_word (map string_bytes tables.now)) text.now ≡ Ok (join_seen query)) }
+    ensures left { IfOk result (λ query. query.left < length tables.now) }
+    ensures right { IfOk result (λ query. query.right < length tables.now) }
+    ensures refused { IfErr result (MayRefuse never (join_read (map table_of_word (map string_bytes tables.now)) text.now)) }
+    ensures early { IfErr result (IsEarly ⊥) }
+{
+    if text.len() > MAX_BYTES {
+        return Err(NO_JOIN);
+    }
+    check_script(alloc, text)?;
+    early_join(alloc, tables, text)
 }
 
 // The block of a join over its tables.
@@ -75,9 +118,9 @@ fn bind_query(alloc: Global, query: &JoinQuery<'_>, tables: &Tables) -> Result<B
 /// The plan of a script's file and table words: what a run runs.
 ///
 /// # Errors
-/// The first refusal, in this order: the script isn't there or can't be read, or isn't a script;
-/// each table isn't there or can't be read, or isn't a table; a table lacks its column. Want of
-/// memory may come at any point.
+/// The first refusal, in this order: the script isn't there or can't be read, is too long, isn't a
+/// script, or isn't in the early form; each table isn't there or can't be read, or isn't a table; a
+/// table lacks its column. Want of memory may come at any point.
 pub fn prepare<F: Folder>(
     alloc: Global,
     folder: &mut F,

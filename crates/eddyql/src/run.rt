@@ -1,12 +1,14 @@
 //! The top call: from words, files and an output to a status.
 
-ghost use Rattle.std.specs.Prelude.{◌≡◌, ◌⊎◌, ℕ, List, Some, None, Ok, IsSome, IsOkAnd, map, take};
+ghost use Rattle.std.specs.Prelude.{◌≡◌, ◌⊎◌, ℕ, List, Some, None, Ok, Err, IsSome, IsOkAnd, map, take};
 ghost use Rattle.std.specs.String.{string_bytes};
 ghost use Rattle.outside.specs.Files.{File};
 ghost use Rattle.outside.specs.Faults.{NeverFalls, Rose};
 ghost use Rattle.outside.specs.Told.{Adds, AddsFront};
+ghost use Rattle.sq_parse.specs.declared.parser.ParseFault.{ParseFault};
 ghost use Rattle.bag_meaning.specs.Bag.{bag};
 ghost use Rattle.eddyql.specs.Words.{command};
+ghost use Rattle.eddyql.specs.ScriptText.{HasScript, read_of};
 ghost use Rattle.eddyql.specs.Join.{no_meaning};
 ghost use Rattle.eddyql.specs.Writing.{HasRows, rows_of_combo};
 ghost use Rattle.eddyql.specs.Outcome.{outcome, text_of, ReachedBy};
@@ -59,9 +61,10 @@ fn answer<O: Sink>(alloc: Global, plan: &Plan, out: &mut O) -> Status
 /// Runs a script: the top call, which does all that the program does.
 ///
 /// The words are the script's file and 1 to 16 tables, each `NAME=FILE`; they don't hold the
-/// program's own name. In this order the words are tested, the script is loaded and read, each
-/// table is loaded and read, the columns are bound, the query is run, and its answer is written to
-/// `out`: nothing is written before. The first refusal ends the run. Nothing is put to `notes` yet.
+/// program's own name. In this order the words are tested, the script is loaded, parsed and read,
+/// each table is loaded and read, the columns are bound, the query is run, and its answer is written
+/// to `out`: nothing is written before. The first refusal ends the run. Nothing is put to `notes`
+/// yet.
 ///
 /// Where the folder tells what it holds, `Done` has written exactly the text of the outcome of these
 /// words and files, and any refusal but a fault of the folder or the output, or want of memory, is
@@ -88,6 +91,9 @@ pub fn run<F: Folder, O: Sink, N: Sink>(
         (Rose (O.faults out.old) (O.faults out.new)) (outcome (map string_bytes words.now) files) result }
     ensures usage_only { result ≡ Status.Usage → command (map string_bytes words.now) ≡ None }
     ensures usage { command (map string_bytes words.now) ≡ None → result ≡ Status.Usage }
+    ensures syntax { (files : List File) → F.holds folder.old ≡ Some files → (text : List ℕ) (fault : ParseFault)
+        → HasScript (map string_bytes words.now) files text → read_of text ≡ Err fault → ¬ (Rose (F.faults folder.old) (F.faults folder.new))
+        → (result ≡ Status.Script fault) ⊎ (result ≡ Status.Memory) }
     ensures read { (file : FileOf) → result ≡ Status.Read file → Rose (F.faults folder.old) (F.faults folder.new) }
     ensures write { result ≡ Status.Write → Rose (O.faults out.old) (O.faults out.new) }
     ensures not_found { (file : FileOf) → result ≡ Status.NotFound file → IsSome (F.holds folder.old) }

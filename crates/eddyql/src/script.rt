@@ -17,8 +17,8 @@ use std::alloc::Global;
 use std::str;
 use tokens::{Token, first_tokens};
 
-// The bytes that a script may have at most.
-const MAX_BYTES: usize = 67_108_864;
+/// The bytes that a script may have at most.
+pub const MAX_BYTES: usize = 67_108_864;
 
 // The tokens that show whether a script is in form: one more than the form has.
 const TOKENS_READ: u32 = 15;

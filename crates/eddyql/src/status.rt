@@ -1,12 +1,7 @@
 ghost use Rattle.std.specs.Prelude.{◌≡◌};
 ghost use Rattle.eddyql.specs.Code.{code_of};
 
-/// Why a script isn't a script. `at` counts bytes from 0.
-#[derive(Clone, Copy, Debug, PartialEq, Eq)]
-pub enum ParseFault {
-    /// The script isn't in the form that is taken.
-    Syntax { at: u32 },
-}
+pub use sq_parse::ParseFault;
 
 /// Why a file isn't a table.
 #[derive(Clone, Copy, Debug, PartialEq, Eq)]
@@ -36,7 +31,8 @@ pub enum Status {
     Done,
     /// The words aren't of the form of the command line.
     Usage,
-    /// The script isn't a script.
+    /// The script isn't a script, or isn't in the form that is taken: then `Syntax` at 0. The fault
+    /// is never `Memory`.
     Script { fault: ParseFault },
     /// A statement can't be bound to the tables.
     Bind { statement: u32, fault: BindFault },

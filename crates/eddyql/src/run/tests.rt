@@ -43,14 +43,18 @@ const WORDS_65: &[&str] = &[
 const QUERY_64: &[u8] =
     b"SELECT * FROM abcdefghijklmnopqrstuvwxyzabcdefghijklmnopqrstuvwxyzabcdefghijkl, u WHERE abcdefghijklmnopqrstuvwxyzabcdefghijklmnopqrstuvwxyzabcdefghijkl.c = u.d";
 
-const SYNTAX: Status = Status::Script {
-    fault: ParseFault::Syntax { at: 0 },
-};
-
 const UNBOUND: Status = Status::Bind {
     statement: 1,
     fault: BindFault::UnknownColumn { at: 0 },
 };
+
+// A script that the grammar doesn't allow from this byte on. At 0 it may also be a script that isn't
+// in the early form.
+fn syntax(at: u32) -> Status {
+    Status::Script {
+        fault: ParseFault::Syntax { at },
+    }
+}
 
 fn bad(table: u32) -> Status {
     Status::BadTable {
@@ -109,7 +113,7 @@ fn worked_rows(rt: HostRuntime) -> Result<(), Fail> {
             Status::Done,
             b"d,c,k\n2,2,20\n1,1,10\n2,2,20\n",
         ),
-        (WORDS, b"SELECT c FROM t", U, SYNTAX, b""),
+        (WORDS, b"SELECT c FROM t", U, syntax(0), b""),
         (
             WORDS,
             b"SELECT * FROM t, u WHERE t.c = u.e",
@@ -151,24 +155,32 @@ fn scripts_and_words(rt: HostRuntime) -> Result<(), Fail> {
             Status::Done,
         ),
         (WORDS, b"SELECT * FROM T, U WHERE T.C = U.D", Status::Done),
-        (WORDS, b"SELECT * FROM t, u WHERE t.c = u.-- d", SYNTAX),
-        (WORDS, b"SELECT * FROM t, u WHERE t.c = u.d u", SYNTAX),
-        (WORDS, b"SELECT * FROM t, u WHERE u.d = t.c", SYNTAX),
-        (WORDS, b"SELECT * FROM t, v WHERE t.c = v.d", SYNTAX),
-        (WORDS, b"SELECT * FROM \"t\", u WHERE \"t\".c = u.d", SYNTAX),
-        (&["q", "t=1"], b"SELECT * FROM T, t WHERE T.c = t.c", SYNTAX),
+        (WORDS, b"SELECT * FROM t, u WHERE t.c = u.-- d", syntax(37)),
+        (WORDS, b"SELECT * FROM t, u WHERE t.c = u.d u", syntax(35)),
+        (WORDS, b"SELECT * FROM t, u WHERE u.d = t.c", syntax(0)),
+        (WORDS, b"SELECT * FROM t, v WHERE t.c = v.d", syntax(0)),
+        (
+            WORDS,
+            b"SELECT * FROM \"t\", u WHERE \"t\".c = u.d",
+            syntax(0),
+        ),
+        (
+            &["q", "t=1"],
+            b"SELECT * FROM T, t WHERE T.c = t.c",
+            syntax(0),
+        ),
         (
             &["q", "t=1", "select=2"],
             b"SELECT * FROM t, select WHERE t.c = select.d",
-            SYNTAX,
+            syntax(17),
         ),
-        (WORDS, b"", SYNTAX),
+        (WORDS, b"", syntax(0)),
         (WORDS, b"SELECT * FROM t, u WHERE t.d = u.d", UNBOUND),
         (WORDS, b"SELECT * FROM t, u WHERE t.c = u.c", UNBOUND),
         // Of two faults the first in order: the words, the script, each table.
         (&["9", "t=9", "t=2"], QUERY, Status::Usage),
         (&["9", "t=9", "u=9"], QUERY, absent(FileOf::Script)),
-        (&["q", "t=9", "u=9"], b"SELECT", SYNTAX),
+        (&["q", "t=9", "u=9"], b"SELECT", syntax(6)),
         (&["q", "t=q", "u=9"], QUERY, bad(0)),
         (&["q", "t=9", "u=q"], QUERY, absent(FileOf::Table(0))),
         (
@@ -198,6 +210,76 @@ fn scripts_and_words(rt: HostRuntime) -> Result<(), Fail> {
         );
         let written = if status == Status::Done { ANSWER } else { b"" };
         assert_eq!(rt; out.written(), written);
+    }
+    Ok(())
+}
+
+// A script of some bytes, and others as many times.
+fn script_of(alloc: Global, front: &[u8], times: u32, part: &[u8]) -> Result<Vec<u8>, Fail> {
+    let mut script = Vec::new(alloc);
+    script.extend_from_slice(front)?;
+    for _ in 0..times {
+        script.extend_from_slice(part)?;
+    }
+    Ok(script)
+}
+
+#[test]
+fn faults_of_the_script(rt: HostRuntime) -> Result<(), Fail> {
+    // The bytes in front, and how often others follow.
+    let cases: [(&[u8], u32, &[u8], ParseFault); 10] = [
+        (
+            b"SELECT x FROM n WHERE x IN (",
+            0,
+            b"",
+            ParseFault::Syntax { at: 28 },
+        ),
+        (
+            b"SELECT x FROM n WHERE ",
+            64,
+            b"(",
+            ParseFault::Syntax { at: 86 },
+        ),
+        (
+            b"SELECT x FROM n WHERE ",
+            65,
+            b"(",
+            ParseFault::TooDeep { at: 86 },
+        ),
+        (
+            b"",
+            65,
+            b"SELECT x FROM n;",
+            ParseFault::TooManyStatements { at: 1024 },
+        ),
+        (
+            b"SELECT x FROM n WHERE 2147483648 * x = 1",
+            0,
+            b"",
+            ParseFault::NumberTooLarge { at: 22 },
+        ),
+        (
+            b"SELECT * FROM t, u WHERE t.c = u.d -- \xFF",
+            0,
+            b"",
+            ParseFault::NotUtf8 { at: 38 },
+        ),
+        // Not UTF-8 comes first, wherever it stands.
+        (b"u \xC3", 0, b"", ParseFault::NotUtf8 { at: 2 }),
+        (b"\xEF\xBB\xBF", 1, QUERY, ParseFault::Syntax { at: 0 }),
+        // These are scripts, but not in the early form.
+        (QUERY, 1, b";", ParseFault::Syntax { at: 0 }),
+        (b"", 64, b"SELECT x FROM n;", ParseFault::Syntax { at: 0 }),
+    ];
+    for (front, times, part, fault) in cases {
+        let script = script_of(rt.alloc(), front, times, part)?;
+        let mut folder = folder_of(rt.alloc(), script.as_slice(), T, U)?;
+        let mut out = MemorySink::with_room(rt.alloc(), 99)?;
+        assert_eq!(rt;
+            status_of(rt.alloc(), WORDS, &mut folder, &mut out)?,
+            Status::Script { fault }
+        );
+        assert!(rt; out.written().is_empty());
     }
     Ok(())
 }
@@ -344,7 +426,7 @@ fn exit_statuses(rt: HostRuntime) {
     let cases: [(Status, u8); 9] = [
         (Status::Done, 0),
         (Status::Usage, 2),
-        (SYNTAX, 3),
+        (syntax(0), 3),
         (UNBOUND, 3),
         (bad(0), 4),
         (absent(FileOf::Script), 5),

@@ -1,19 +1,31 @@
-use Rattle.std.proofs.Common.{◌≡◌, Some, sym, ap, ◌∙◌, arith}
-use Rattle.std.specs.Prelude.{option_map, map}
+use Rattle.std.proofs.Common.{◌≡◌, Result, Err, refl, sym, ◌∙◌}
+use Rattle.std.specs.Prelude.{map, IfErr}
 use Rattle.std.specs.String.{string_bytes}
+use Rattle.std.proofs.lemmas.Result.{IfOk-weaker, IfErr-weaker, err_from_is_err_and}
 use Rattle.eddyql.specs.Words.{table_of_word}
-use Rattle.eddyql.specs.Seen.{join_seen}
-use Rattle.eddyql.proofs.OutcomeLemmas.{length-table_words}
-use Rattle.eddyql.proofs.ScriptLemmas.{IsOfTwo, IsOfTwo-from_script}
+use Rattle.eddyql.specs.Script.{JoinQuery}
+use Rattle.eddyql.specs.Refusal.{MayRefuse, never}
+use Rattle.eddyql.specs.declared.status.Status.{Status}
+use Rattle.eddyql.proofs.OutcomeLemmas.{MayRefuse-same}
+use Rattle.eddyql.proofs.ScriptTextLemmas.{no_join, join_read-long, join_read-refused, join_read-script}
 use Rattle.eddyql.proofs.preparing.find_query.Goals as goal
 
-two : (c : goal.In-Ok-Some) → IsOfTwo (map table_of_word (map string_bytes c.args.tables.now)) (join_seen c.in-Ok-Some.query)
-two c =
-    IsOfTwo-from_script (map table_of_word (map string_bytes c.args.tables.now)) c.args.text.now (join_seen c.in-Ok-Some.query)
-    (sym c.in-Ok-Some.ensures ∙ ap (option_map join_seen) c.in-Ok-Some.field-0-is)
+pub returns-then-text-gt-MAX_BYTES-clause-refused : goal.returns-then-text-gt-MAX_BYTES-clause-refused
+returns-then-text-gt-MAX_BYTES-clause-refused c = join_read-long _ c.args.text.now c.if-text-gt-MAX_BYTES.true
 
-pub returns-in-Ok-Some-clause-left : goal.returns-in-Ok-Some-clause-left
-returns-in-Ok-Some-clause-left c = omega (arith, (two c).left, length-table_words string_bytes c.args.tables.now)
+pub returns-in_err-check_script-clause-refused : goal.returns-in_err-check_script-clause-refused
+returns-in_err-check_script-clause-refused c =
+    let p = err_from_is_err_and c.from_residual.result c.from_residual.ensures.1 in
+    rw (p.1, p.2)
+    (join_read-refused (map table_of_word (map string_bytes c.args.tables.now)) c.args.text.now c.in_err-check_script.field-0.0 c.if-text-gt-MAX_BYTES.false
+    c.in_err-check_script.ensures.refused)
 
-pub returns-in-Ok-Some-clause-right : goal.returns-in-Ok-Some-clause-right
-returns-in-Ok-Some-clause-right c = omega (arith, (two c).right, length-table_words string_bytes c.args.tables.now)
+pub returns-clause-ok : goal.returns-clause-ok
+returns-clause-ok c =
+    let spelled = join_read-script (map table_of_word (map string_bytes c.args.tables.now)) c.args.text.now c.if-text-gt-MAX_BYTES.false c.in_ok-check_script.ensures.ok in
+    IfOk-weaker c.early_join.result _ _ (λ q e. spelled ∙ rw e refl) c.early_join.ensures.ok
+
+pub returns-clause-refused : goal.returns-clause-refused
+returns-clause-refused c =
+    let spelled = join_read-script (map table_of_word (map string_bytes c.args.tables.now)) c.args.text.now c.if-text-gt-MAX_BYTES.false c.in_ok-check_script.ensures.ok in
+    IfErr-weaker c.early_join.result _ _ (λ s h. MayRefuse-same never never _ _ s (sym spelled) (λ f r. r) h) c.early_join.ensures.refused

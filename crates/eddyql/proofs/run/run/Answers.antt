@@ -11,7 +11,7 @@ use Rattle.eddyql.specs.Refusal.{MayRefuse}
 use Rattle.eddyql.specs.Run.{MayEnd, status_of, text_due}
 use Rattle.eddyql.specs.declared.plan.Plan.{Plan}
 use Rattle.eddyql.specs.declared.status.Status.{Status}
-use Rattle.eddyql.proofs.RunLemmas.{IsRunOf, run_of, no_command-false, no_command-none, outcome-usage, outcome_of_run, end_of_refused, MayEnd-late, ends_by_outcome, not_read}
+use Rattle.eddyql.proofs.RunLemmas.{IsRunOf, run_of, no_command-false, no_command-none, outcome-usage, outcome_of_run, end_of_refused, MayEnd-late, ends_by_outcome, not_read, no_script, ends_by_script_fault}
 use Rattle.eddyql.proofs.run.run.Given as given
 use Rattle.eddyql.proofs.run.run.Goals as goal
 
@@ -91,3 +91,24 @@ returns-in-Err-clause-complete g c =
     (outcome (map string_bytes c.args.words.now) files) c.in-Err.refusal
     (end_of_refused (map string_bytes c.args.words.now) (string_bytes c.in-Some.script.now) c.as_str.result.now (map string_bytes c.in-Some.tables.now) files _ _ _ c.in-Err.refusal
     r c.as_str.ensures.value c.in-Err.ensures.early (c.in-Err.ensures.refused files told)) (not_read _ _ a) b
+
+pub returns-then-not-is_command-clause-syntax : goal.returns-then-not-is_command-clause-syntax
+returns-then-not-is_command-clause-syntax g c = λ files told text fault has e calm.
+    absurd (no_script (map string_bytes c.args.words.now) files text
+    (no_command-false (map string_bytes c.args.words.now) c.is_command.result c.is_command.ensures c.if-not-is_command.true) has)
+
+pub returns-in_default-clause-syntax : goal.returns-in_default-clause-syntax
+returns-in_default-clause-syntax g c = λ files told text fault has e calm.
+    absurd (no_script (map string_bytes c.args.words.now) files text (no_command-none string_bytes c.args.words.now c.in_default.ensures.cases) has)
+
+pub returns-in-Ok-clause-syntax : goal.returns-in-Ok-clause-syntax
+returns-in-Ok-clause-syntax g c = λ files told text fault has e calm.
+    ends_by_script_fault (map string_bytes c.args.words.now) files text fault
+    (λ f. Rose (g.F.Folder.faults c.args.folder.now) (g.F.Folder.faults c.prepare.new.folder) × ReachedBy (map string_bytes c.args.words.now) files f)
+    (Rose (g.O.Sink.faults c.args.out.now) (g.O.Sink.faults c.answer.new.out)) c.answer.result has e (returns-in-Ok-clause-causes g c files told) (not_read _ _ calm)
+
+pub returns-in-Err-clause-syntax : goal.returns-in-Err-clause-syntax
+returns-in-Err-clause-syntax g c = λ files told text fault has e calm.
+    ends_by_script_fault (map string_bytes c.args.words.now) files text fault
+    (λ f. Rose (g.F.Folder.faults c.args.folder.now) (g.F.Folder.faults c.prepare.new.folder) × ReachedBy (map string_bytes c.args.words.now) files f)
+    (Rose (g.O.Sink.faults c.args.out.now) (g.O.Sink.faults c.args.out.now)) c.in-Err.refusal has e (returns-in-Err-clause-causes g c files told) (not_read _ _ calm)

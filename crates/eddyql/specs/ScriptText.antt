@@ -1,0 +1,34 @@
+-- The text of a script: it is read by the whole grammar, before anything else is asked of it.
+use Rattle.std.specs.Prelude.{◌≡◌, ◌≤◌, ℕ, List, length, Some, Result, Ok, Err, if◌then◌else◌}
+use Rattle.std.specs.Str.{is_utf8}
+use Rattle.std.specs.Str.Lossy.{utf8_valid_len}
+use Rattle.sq_parse.specs.declared.parser.ParseFault.{ParseFault}
+use Rattle.sq_parse.specs.declared.parser.ParseFault.TheVariants.{NotUtf8, Memory}
+use Rattle.sq_parse.specs.declared.tree.Script.{Script}
+use Rattle.sq_parse.specs.Parse.{parsed}
+use Rattle.outside.specs.Files.{File, lookup}
+use Rattle.eddyql.specs.Words.{Command, command}
+use Rattle.eddyql.specs.declared.status.Status.{Status}
+use Rattle.eddyql.specs.declared.status.Status.TheVariants as status
+
+-- the script that a text spells, or why it spells none: first that it isn't UTF-8, told by the first byte at which no
+-- character begins
+unfoldable pub read_of : List ℕ → Result Script ParseFault
+read_of text = if is_utf8 text then parsed text else Err (NotUtf8 (utf8_valid_len text))
+
+-- a fault of a script refuses a run
+abbrev pub or_fault : {A : Type 0} → Result A ParseFault → Result A Status
+or_fault (Err fault) = Err (status.Script fault)
+or_fault (Ok x) = Ok x
+
+-- the status of a run that a fault refuses
+abbrev pub refusal_of : ParseFault → Status
+refusal_of Memory = status.Memory
+refusal_of fault = status.Script fault
+
+-- the words are in form, and the files hold this text of their script, which isn't too long
+pub record HasScript (words : List (List ℕ)) (files : List File) (text : List ℕ) : Type 0 where
+  pub asked : Command
+  pub in_form : command words ≡ Some asked
+  pub found : lookup files asked.script ≡ Some text
+  pub short : length text ≤ 67108864
