@@ -1,6 +1,5 @@
 -- Reading stops at the first fault of a text.
-use Rattle.std.proofs.Common.{◌≡◌, ◌≢◌, ◌⊎◌, inl, inr, ⊎_elim, Bool, true, false, not, ◌&&◌, ◌||◌, ℕ, zero, suc, ◌+◌, ◌<◌, ◌≤◌, List, [], ◌∷◌, ◌++◌, length, Result, Ok, Err, IfErr, MatchResult, refl, ap, sym, subst, ◌∙◌, append_assoc, append-nil, arith}
-use Rattle.std.specs.Prelude.{⊤}
+use Rattle.std.proofs.Common.{◌≡◌, ◌≢◌, ◌⊎◌, inl, inr, ⊎_elim, Bool, true, false, not, ◌&&◌, ℕ, zero, suc, ◌+◌, ◌<◌, ◌≤◌, List, [], ◌∷◌, ◌++◌, length, Result, Ok, Err, IfErr, MatchResult, refl, ap, sym, subst, ◌∙◌, append_assoc, append-nil, arith}
 use Rattle.std.specs.Str.{IsUtf8}
 use Rattle.std.specs.Str.Lossy.{utf8_valid_len}
 use Rattle.sq_parse.specs.declared.mark.Mark.{Mark}
@@ -12,14 +11,14 @@ use Rattle.sq_parse.specs.declared.parser.ParseFault.TheVariants as fault
 use Rattle.sq_parse.specs.declared.tree.Script.{Script}
 use Rattle.sq_parse.specs.Form.{Text}
 use Rattle.sq_parse.specs.Mark.{is}
-use Rattle.sq_parse.specs.Tok.{Tok, toks, head, next, behind, done}
+use Rattle.sq_parse.specs.Tok.{Tok, toks, head, next, done}
 use Rattle.sq_parse.specs.Grammar as g
 use Rattle.sq_parse.specs.Grammar.{shipped}
 use Rattle.sq_parse.specs.Reading.{Outcome}
 use Rattle.sq_parse.specs.Reader as read
 use Rattle.sq_parse.specs.Parse.{Spelled, Spells, unlimited, place_in, fault_at, answer_of, parsed, Answers}
 use Rattle.sq_parse.specs.Fault.{Begins, Shallow, Short, Among, up_to, IsUnexpected, IsUnfinished, IsOverLimit, IsLarge, last, is_large, HasFault, place_of, number_of, IsNoLater, IsFault}
-use Rattle.sq_parse.proofs.Exact.{Ok-value, Err-Ok}
+use Rattle.sq_parse.proofs.Exact.{Err-Ok}
 use Rattle.sq_parse.proofs.StatementsExact.{script_again}
 use Rattle.sq_parse.proofs.ParseLemmas.{spelled_by}
 use Rattle.sq_parse.proofs.Shrinking.{nested}
