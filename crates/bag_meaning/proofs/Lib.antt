@@ -7,5 +7,8 @@ pub mod RisingLemmas
 pub mod PairLemmas
 pub mod AnswerLemmas
 mod WorkedRows
+pub mod SpanLemmas
 pub mod NestedLemmas
 mod SampleLemmas
+pub mod AgreeLemmas
+pub mod DueLemmas

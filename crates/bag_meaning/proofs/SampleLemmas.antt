@@ -1,16 +1,14 @@
 -- The blocks of the tests fit their tables.
-use Rattle.std.proofs.Common.{◌≡◌, ℕ, zero, suc, ◌+◌, ◌/◌, ◌^◌, ◌<◌, ◌≤◌, ◌⊎◌, inl, List, [], ◌∷◌, length, map, get_or, Option, Some, None, refl, ap, sym, subst, ◌∙◌, arith}
-use Rattle.std.specs.Prelude.{All, Contains, IsBitSet, IsSome, ◌↔◌, bit_and, true}
+use Rattle.std.proofs.Common.{◌≡◌, ℕ, zero, suc, ◌/◌, ◌^◌, ◌<◌, ◌≤◌, inl, List, [], ◌∷◌, length, map, Some, refl, ap, sym, subst, ◌∙◌, arith}
+use Rattle.std.specs.Prelude.{All, Contains, IsBitSet, IsSome, ◌↔◌, bit_and}
 use Rattle.std.proofs.Math.Nat.{div-eq_of_lt}
 use Rattle.std.proofs.Math.Pow.{pow_mono}
 use Rattle.std.proofs.lemmas.Nat.{bit_set_by_shift}
 use Rattle.std.proofs.lemmas.List.{length-map}
 use Rattle.std.proofs.lemmas.List.Elements.{All-map, All-cons, All-nil}
-use Rattle.sq_value.specs.Relation.{Relation}
 use Rattle.sq_value.specs.declared.value.ColType.TheVariants as kind
 use Rattle.sq_value.specs.declared.value.Cmp.TheVariants.{Lt}
-use Rattle.sq_expr.specs.Fits.{IsFit, FitsAlias, FitsConjunct, FitsHere, kind_in, aliases_of, column_kind}
-use Rattle.sq_expr.specs.declared.cond.ColumnOf.{ColumnOf}
+use Rattle.sq_expr.specs.Fits.{IsFit, FitsAlias, FitsConjunct, FitsHere, kind_in}
 use Rattle.sq_expr.specs.declared.cond.Side.TheVariants.{Column, Text}
 use Rattle.sq_expr.specs.declared.block.AliasUse.{AliasUse}
 use Rattle.sq_expr.specs.declared.block.OutCol.{OutCol}

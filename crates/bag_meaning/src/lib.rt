@@ -1,7 +1,8 @@
 //! The meaning of a query block: the product of its tables, the bag of its matches, the answer
 //! and its text, and the credit of a match to the latest of its parts to be built.
 //!
-//! The definitions stand in specs/; the engine has no product and no nested loop.
+//! The definitions stand in specs/. [`plain`] is their own program, by nested loops, with which
+//! the engine's ways are compared; the engine itself has no product and no nested loop.
 #![tactic(auto)]
 
 mod combo;
