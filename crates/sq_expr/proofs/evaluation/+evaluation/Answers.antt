@@ -96,5 +96,4 @@ evaluate-returns-in-Is g t c =
     let at = value_in c.args.rows.now.tables.now c.args.rows.now.uses c.args.rows.now.rows in
     let of = truth_of g.F.Predicates.gives at in
     let part = c.evaluate-in-Is.ensures ∙ ap of c.get-in-Is.ensures in
-    c.two_valued-in-Is.ensures ∙ ap two_valued (c.is_truth.ensures ∙ ap (λ (x : Truth). is_truth x c.in-Is.named) part)
-    ∙ sym (ap of c.in-Is.is ∙ truth_of-Is _ at _ _)
+    c.asked.ensures ∙ ap (λ (x : Truth). two_valued (is_truth x c.in-Is.named)) part ∙ sym (ap of c.in-Is.is ∙ truth_of-Is _ at _ _)
