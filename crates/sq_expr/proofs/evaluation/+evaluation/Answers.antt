@@ -1,8 +1,8 @@
-use Rattle.std.proofs.Common.{◌≡◌, List, map, All, sym, ap, subst, ◌∙◌, rules}
+use Rattle.std.proofs.Common.{List, map, All, sym, ap, subst, ◌∙◌, rules}
 use Rattle.sq_value.specs.Truth.{negated, is_truth}
 use Rattle.sq_value.specs.Comparison.{two_valued}
 use Rattle.sq_value.specs.declared.value.Truth.{Truth}
-use Rattle.sq_expr.specs.Meaning.{truth_of, value_in, arg_value, least, greatest}
+use Rattle.sq_expr.specs.Meaning.{truth_of, value_in, least, greatest}
 use Rattle.sq_expr.specs.Fits.{FitsHere}
 use Rattle.sq_expr.specs.Reading.{IsSeen, IsReady}
 use Rattle.sq_expr.specs.declared.cond.Cond.{Cond, the_lemmas}
