@@ -1,5 +1,5 @@
 -- The tests' conditions may be evaluated.
-use Rattle.std.proofs.Common.{◌≡◌, ℕ, zero, suc, ◌<◌, List, [], ◌∷◌, length, replicate, Some, subst, arith}
+use Rattle.std.proofs.Common.{◌≡◌, ℕ, zero, suc, ◌<◌, List, ◌∷◌, length, replicate, Some, subst, arith}
 use Rattle.std.specs.Prelude.{Contains, IsBitSet, slice_get}
 use Rattle.sq_value.specs.Relation.{Relation}
 use Rattle.sq_expr.specs.declared.cond.Cond.{Cond}

@@ -1,4 +1,4 @@
-use Rattle.std.proofs.Common.{sym, subst, ◌∙◌}
+use Rattle.std.proofs.Common.{sym, subst}
 use Rattle.sq_expr.specs.Fits.{FitsHere}
 use Rattle.sq_expr.specs.Samples.{IsSample, IsSampleColumn, sample_kinds}
 use Rattle.sq_expr.proofs.FitLemmas.{made-Not}
