@@ -1,10 +1,10 @@
 -- The steps of an outcome: what was loaded stands for the whole file, and refusals come in one order.
-use Rattle.std.proofs.Common.{◌≡◌, ℕ, zero, suc, ◌+◌, ◌<◌, ◌≤◌, Bool, true, false, cond, ltb, List, [], ◌∷◌, ◌++◌, length, take, drop, get_or, min, Option, Some, None, Result, Ok, Err, refl, sym, ◌∙◌, ap, subst, ◌⊎◌, inl, inr, arith}
-use Rattle.std.specs.Prelude.{option_map, map, All, IfErr, IsSome, IsOk, ◌||◌, not, ◌==◌, ⊤}
+use Rattle.std.proofs.Common.{◌≡◌, ℕ, suc, ◌+◌, ◌<◌, ◌≤◌, Bool, true, false, cond, ltb, List, [], ◌∷◌, ◌++◌, length, take, drop, get_or, Option, Some, None, Result, Ok, Err, refl, sym, ◌∙◌, ap, subst, ◌⊎◌, inl, inr, arith}
+use Rattle.std.specs.Prelude.{option_map, map, All, IsSome, IsOk, ◌||◌}
 use Rattle.std.proofs.lemmas.List.Elements.{All-map}
 use Rattle.csv.specs.Reading.{records, default_config}
 use Rattle.std.proofs.lemmas.List.{take_all, take_more, drop_more, get_or-map, length-map, take-append-drop, length-take, length-take-le}
-use Rattle.std.proofs.lemmas.Bool.{lt-ltb, ltb-true, cases_lt}
+use Rattle.std.proofs.lemmas.Bool.{lt-ltb, cases_lt}
 use Rattle.outside.specs.Files.{File, lookup, Gives, Lacks}
 use Rattle.sq_value.specs.Relation.{Relation}
 use Rattle.eddyql.specs.Words.{TableWord, table_of_word}

@@ -1,23 +1,21 @@
 -- The plan of a command: its steps, and what holds of its block.
-use Rattle.std.proofs.Common.{◌≡◌, ℕ, zero, suc, ◌+◌, ◌<◌, ◌≤◌, Bool, true, false, cond, ltb, List, [], ◌∷◌, ◌++◌, length, take, get_or, map, Option, Some, None, Result, Ok, Err, refl, sym, ◌∙◌, ap, subst, ◌⊎◌, inl, inr, arith}
+use Rattle.std.proofs.Common.{◌≡◌, ℕ, ◌+◌, ◌<◌, ◌≤◌, Bool, true, false, cond, ltb, List, [], ◌∷◌, length, take, get_or, Option, Some, None, Result, Ok, Err, refl, sym, ◌∙◌, ap, subst, inl, inr, arith}
 use Rattle.std.specs.Prelude.{option_map, position, slice_get, All, IsOk}
 use Rattle.std.specs.List.{position_or_len}
-use Rattle.std.proofs.lemmas.Bool.{ltb-true, lt-ltb}
+use Rattle.std.proofs.lemmas.Bool.{ltb-true}
 use Rattle.std.proofs.lemmas.Option.{slice_get-get_or, get_or_from_slice_get, slice_get_within}
-use Rattle.std.proofs.lemmas.List.Elements.{All-nil, All-cons, All-append, All-weaker, All-get_or}
+use Rattle.std.proofs.lemmas.List.Elements.{All-nil, All-cons, All-append, All-weaker}
 use Rattle.outside.specs.Files.{File, lookup, Gives, Lacks}
 use Rattle.sq_parse.specs.declared.parser.ParseFault.{ParseFault}
 use Rattle.sq_value.specs.Relation.{Relation}
-use Rattle.sq_value.specs.Name.{is_same_name}
 use Rattle.sq_value.specs.declared.table.Column.{Column}
 use Rattle.sq_value.specs.declared.value.ColType.TheVariants.{Integer}
 use Rattle.sq_expr.specs.declared.block.Block.{Block}
 use Rattle.sq_expr.specs.declared.block.OutCol.{OutCol}
 use Rattle.bag_meaning.specs.Bag.{uses_of}
-use Rattle.eddyql.specs.Words.{TableWord, Command}
+use Rattle.eddyql.specs.Words.{Command}
 use Rattle.eddyql.specs.Script.{JoinQuery}
 use Rattle.eddyql.specs.ScriptText.{read_of}
-use Rattle.eddyql.specs.Join.{IsJoin}
 use Rattle.eddyql.specs.Writing.{IsOutput}
 use Rattle.eddyql.specs.Runnable.{IsRunnable}
 use Rattle.eddyql.specs.Binding.{columns_of, column_named, block_of, block_with, block_between}

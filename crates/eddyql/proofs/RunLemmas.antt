@@ -1,5 +1,5 @@
 -- How a run ends: the outcome of its words, by the plan.
-use Rattle.std.proofs.Common.{◌≡◌, ℕ, ◌<◌, ◌≤◌, Bool, true, false, List, [], ◌∷◌, length, take, get_or, map, Option, Some, None, Result, Ok, Err, refl, sym, ◌∙◌, ap, subst, ◌⊎◌, inl, inr, arith}
+use Rattle.std.proofs.Common.{◌≡◌, ℕ, ◌≤◌, Bool, true, false, List, [], ◌∷◌, length, take, map, Option, Some, None, Result, Ok, Err, refl, sym, ◌∙◌, ap, subst, ◌⊎◌, inl, inr, arith}
 use Rattle.std.specs.Prelude.{All, is_some}
 use Rattle.std.proofs.lemmas.List.{length-map, get_or-map}
 use Rattle.std.proofs.lemmas.Bool.{false≢true}
@@ -7,22 +7,22 @@ use Rattle.outside.specs.Files.{File}
 use Rattle.sq_parse.specs.declared.parser.ParseFault.{ParseFault}
 use Rattle.sq_value.specs.Relation.{Relation}
 use Rattle.sq_expr.specs.declared.block.Block.{Block}
-use Rattle.bag_meaning.specs.Bag.{bag, uses_of}
+use Rattle.bag_meaning.specs.Bag.{bag}
 use Rattle.bag_meaning.specs.declared.combo.Combo.{Combo}
-use Rattle.bag_meaning.proofs.ProductRange.{IsCombination, bag-in_range}
+use Rattle.bag_meaning.proofs.ProductRange.{bag-in_range}
 use Rattle.eddyql.specs.Words.{Command, command, table_of_word}
 use Rattle.eddyql.specs.ScriptText.{HasScript, read_of}
 use Rattle.eddyql.specs.Join.{IsJoin, no_meaning}
 use Rattle.eddyql.specs.Writing.{HasRows, rows_of_combo}
-use Rattle.eddyql.specs.Outcome.{◌>>=◌, or_refuse, plan_of, outcome, text_of, Reached, ReachedBy}
+use Rattle.eddyql.specs.Outcome.{◌>>=◌, plan_of, outcome, text_of, Reached, ReachedBy}
 use Rattle.eddyql.specs.declared.status.FileOf.{FileOf}
 use Rattle.eddyql.proofs.OutcomeLemmas.{MayRefuse-same}
 use Rattle.eddyql.specs.Refusal.{MayRefuse, IsEarly}
-use Rattle.eddyql.specs.Run.{MayEnd, status_of, text_due, IsLate}
+use Rattle.eddyql.specs.Run.{MayEnd, status_of, IsLate}
 use Rattle.eddyql.specs.declared.plan.Plan.{Plan}
 use Rattle.eddyql.specs.declared.status.Status.{Status}
 use Rattle.eddyql.specs.declared.status.Status.TheVariants as status
-use Rattle.eddyql.proofs.WordsLemmas.{IsCommand, IsCommand-from_command}
+use Rattle.eddyql.proofs.WordsLemmas.{IsCommand-from_command}
 use Rattle.eddyql.proofs.PlanLemmas.{plan_of-script_fault}
 
 -- a join has two aliases

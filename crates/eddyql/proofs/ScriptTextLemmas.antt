@@ -1,6 +1,6 @@
 -- The text of a script: what the parser answers is what reading gives, and the join that the text asks for.
-use Rattle.std.proofs.Common.{◌≡◌, ℕ, ◌<◌, ◌≤◌, Bool, true, false, cond, ltb, List, length, take, Option, Some, None, Result, Ok, Err, refl, sym, ◌∙◌, ap, subst, ◌⊎◌, inl, inr, arith}
-use Rattle.std.specs.Prelude.{◌≢◌, IfOk, IsOk}
+use Rattle.std.proofs.Common.{◌≡◌, ℕ, ◌<◌, ◌≤◌, Bool, true, false, cond, List, length, take, Result, Ok, Err, refl, sym, ◌∙◌, ap, subst, ◌⊎◌, inl, inr, arith}
+use Rattle.std.specs.Prelude.{◌≢◌, IsOk}
 use Rattle.std.specs.Str.{IsUtf8, is_utf8}
 use Rattle.std.specs.Str.Lossy.{utf8_valid_len}
 use Rattle.std.proofs.lemmas.Bool.{false≢true, lt-ltb, le-ltb, cases_lt}
@@ -17,7 +17,6 @@ use Rattle.eddyql.specs.Outcome.{◌>>=◌, or_refuse, join_spelled, join_read}
 use Rattle.eddyql.specs.Refusal.{MayRefuse, never}
 use Rattle.eddyql.specs.declared.status.Status.{Status}
 use Rattle.eddyql.specs.declared.status.Status.TheVariants as status
-use Rattle.eddyql.specs.declared.status.FileOf.{FileOf}
 use Rattle.eddyql.proofs.OutcomeLemmas.{MayRefuse-first}
 
 -- a text in UTF-8 is read by the grammar, and no other is

@@ -1,4 +1,4 @@
-use Rattle.std.proofs.Common.{◌≡◌, Some, sym, ap, ◌∙◌, arith}
+use Rattle.std.proofs.Common.{sym, ap, ◌∙◌, arith}
 use Rattle.std.specs.Prelude.{option_map, map}
 use Rattle.std.specs.String.{string_bytes}
 use Rattle.eddyql.specs.Words.{table_of_word}

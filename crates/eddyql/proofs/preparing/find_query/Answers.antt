@@ -1,13 +1,11 @@
-use Rattle.std.proofs.Common.{◌≡◌, Result, Err, refl, sym, ◌∙◌}
-use Rattle.std.specs.Prelude.{map, IfErr}
+use Rattle.std.proofs.Common.{refl, sym, ◌∙◌}
+use Rattle.std.specs.Prelude.{map}
 use Rattle.std.specs.String.{string_bytes}
 use Rattle.std.proofs.lemmas.Result.{IfOk-weaker, IfErr-weaker, err_from_is_err_and}
 use Rattle.eddyql.specs.Words.{table_of_word}
-use Rattle.eddyql.specs.Script.{JoinQuery}
-use Rattle.eddyql.specs.Refusal.{MayRefuse, never}
-use Rattle.eddyql.specs.declared.status.Status.{Status}
+use Rattle.eddyql.specs.Refusal.{never}
 use Rattle.eddyql.proofs.OutcomeLemmas.{MayRefuse-same}
-use Rattle.eddyql.proofs.ScriptTextLemmas.{no_join, join_read-long, join_read-refused, join_read-script}
+use Rattle.eddyql.proofs.ScriptTextLemmas.{join_read-long, join_read-refused, join_read-script}
 use Rattle.eddyql.proofs.preparing.find_query.Goals as goal
 
 pub returns-then-text-gt-MAX_BYTES-clause-refused : goal.returns-then-text-gt-MAX_BYTES-clause-refused

@@ -1,19 +1,13 @@
-use Rattle.std.proofs.Common.{◌≡◌, ℕ, List, Option, Some, Ok, Result, refl, sym, ap, ◌∙◌, arith}
+use Rattle.std.proofs.Common.{◌≡◌, Ok, refl, ◌∙◌, arith}
 use Rattle.std.specs.Prelude.{map}
 use Rattle.std.specs.String.{string_bytes}
 use Rattle.std.proofs.lemmas.Result.{err_from_is_err_and}
-use Rattle.outside.specs.Faults.{Rose}
-use Rattle.outside.specs.Files.{File}
-use Rattle.outside.proofs.Laws.{Rose-earlier, Rose-later}
-use Rattle.sq_expr.specs.declared.block.Block.{Block}
+use Rattle.outside.proofs.Laws.{Rose-earlier}
 use Rattle.eddyql.specs.Words.{Command, table_of_word}
-use Rattle.eddyql.specs.Script.{early_script}
 use Rattle.eddyql.specs.Seen.{join_seen}
-use Rattle.eddyql.specs.Outcome.{◌>>=◌, or_refuse, query_read, Reached, ReachedTable}
-use Rattle.eddyql.specs.declared.status.Status.{Status}
+use Rattle.eddyql.specs.Outcome.{query_read, Reached, ReachedTable}
 use Rattle.eddyql.proofs.OutcomeLemmas.{MayRefuse-same, reads_weaker}
 use Rattle.eddyql.proofs.PlanLemmas.{query_read-refused, query_found, query_refused, plan_found, plan_refused-query, plan_refused-tables, plan_refused-block, IsRunnable-bound, Reached-table}
-use Rattle.eddyql.proofs.preparing.prepare.Given as given
 use Rattle.eddyql.proofs.preparing.prepare.Goals as goal
 
 pub returns-in_err-text-clause-refused : goal.returns-in_err-text-clause-refused

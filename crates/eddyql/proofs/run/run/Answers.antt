@@ -1,18 +1,13 @@
-use Rattle.std.proofs.Common.{◌≡◌, ℕ, List, Option, Some, None, Ok, Err, Result, ◌⊎◌, inl, inr, length, map, refl, sym, ap, subst, ◌∙◌, arith}
+use Rattle.std.proofs.Common.{ℕ, List, Result, inl, map, sym, ap, subst, arith}
 use Rattle.std.specs.Prelude.{IsOkAnd}
 use Rattle.std.specs.String.{string_bytes}
 use Rattle.std.proofs.lemmas.List.{length-map}
 use Rattle.outside.specs.Faults.{Rose}
-use Rattle.outside.specs.Files.{File}
 use Rattle.outside.specs.Told.{Adds, AddsFront}
-use Rattle.eddyql.specs.Words.{Command, command, table_of_word}
-use Rattle.eddyql.specs.Outcome.{outcome, text_of, plan_of, ReachedBy}
-use Rattle.eddyql.specs.Refusal.{MayRefuse}
-use Rattle.eddyql.specs.Run.{MayEnd, status_of, text_due}
-use Rattle.eddyql.specs.declared.plan.Plan.{Plan}
+use Rattle.eddyql.specs.Outcome.{outcome, text_of, ReachedBy}
+use Rattle.eddyql.specs.Run.{status_of, text_due}
 use Rattle.eddyql.specs.declared.status.Status.{Status}
-use Rattle.eddyql.proofs.RunLemmas.{IsRunOf, run_of, no_command-false, no_command-none, outcome-usage, outcome_of_run, end_of_refused, MayEnd-late, ends_by_outcome, not_read, no_script, ends_by_script_fault}
-use Rattle.eddyql.proofs.run.run.Given as given
+use Rattle.eddyql.proofs.RunLemmas.{run_of, no_command-false, no_command-none, outcome-usage, outcome_of_run, end_of_refused, MayEnd-late, ends_by_outcome, not_read, no_script, ends_by_script_fault}
 use Rattle.eddyql.proofs.run.run.Goals as goal
 
 pub returns-then-not-is_command-clause-causes : goal.returns-then-not-is_command-clause-causes
