@@ -19,3 +19,4 @@ pub mod TurnLemmas
 pub mod StepLemmas
 pub mod OrderLemmas
 pub mod RunLemmas
+pub mod ScriptFaults

@@ -11,11 +11,13 @@ use Rattle.bag_meaning.specs.Bag.{bag}
 use Rattle.bag_meaning.specs.declared.combo.Combo.{Combo}
 use Rattle.bag_meaning.proofs.ProductRange.{bag-in_range}
 use Rattle.eddyql.specs.Words.{Command, command, table_of_word}
+use Rattle.sq_parse.specs.Fault.{IsFault}
 use Rattle.eddyql.specs.ScriptText.{HasScript, read_of}
 use Rattle.eddyql.specs.Join.{IsJoin, no_meaning}
 use Rattle.eddyql.specs.Writing.{HasRows, rows_of_combo}
 use Rattle.eddyql.specs.Outcome.{◌>>=◌, plan_of, outcome, text_of, Reached, ReachedBy}
 use Rattle.eddyql.specs.declared.status.FileOf.{FileOf}
+use Rattle.eddyql.proofs.ScriptTextLemmas.{read_of-fault}
 use Rattle.eddyql.proofs.OutcomeLemmas.{MayRefuse-same}
 use Rattle.eddyql.specs.Refusal.{MayRefuse, IsEarly}
 use Rattle.eddyql.specs.Run.{MayEnd, status_of, IsLate}
@@ -145,11 +147,11 @@ ends_by_fault reads writes fault (status.BadTable n f) h a = absurd cc
 ends_by_fault reads writes fault (status.NotFound f) h a = absurd cc
 
 pub ends_by_script_fault : (words : List (List ℕ)) (files : List File) (text : List ℕ) (fault : ParseFault) (reads : FileOf → Type 0) (writes : Type 0) (s : Status)
-    → HasScript words files text → read_of text ≡ Err fault → MayEnd reads writes (outcome words files) s → ((f : FileOf) → ¬ (reads f))
+    → HasScript words files text → IsFault text fault → MayEnd reads writes (outcome words files) s → ((f : FileOf) → ¬ (reads f))
     → (s ≡ status.Script fault) ⊎ (s ≡ status.Memory)
 ends_by_script_fault words files text fault reads writes s has e h calm =
     ends_by_fault reads writes fault s
-    (subst (λ (due : Result (List ℕ) Status). MayEnd reads writes due s) (outcome-script_fault words files text fault has e) h) calm
+    (subst (λ (due : Result (List ℕ) Status). MayEnd reads writes due s) (outcome-script_fault words files text fault has (read_of-fault text fault e)) h) calm
 
 -- a run whose text is due ends by a step that writes
 pub MayEnd-late : (reads : FileOf → Type 0) (rises : Type 0) (due : Result (List ℕ) Status) (text : List ℕ) (s : Status) → due ≡ Ok text → IsLate s

@@ -10,6 +10,8 @@ use Rattle.sq_parse.specs.declared.parser.ParseFault.{ParseFault}
 use Rattle.sq_parse.specs.declared.parser.ParseFault.TheVariants as fault
 use Rattle.sq_parse.specs.declared.tree.Script.{Script}
 use Rattle.sq_parse.specs.Parse.{parsed, Answers}
+use Rattle.sq_parse.specs.Fault.{IsFault}
+use Rattle.sq_parse.proofs.FirstFault.{fault_is, fault_only, not_utf8_is, not_utf8_only}
 use Rattle.eddyql.specs.Words.{TableWord}
 use Rattle.eddyql.specs.Script.{JoinQuery, early_script}
 use Rattle.eddyql.specs.ScriptText.{read_of, or_fault, refusal_of}
@@ -27,6 +29,24 @@ read_of-text text e = ap (λ b. cond b (parsed text) (Err (fault.NotUtf8 (utf8_v
 pub read_of-other : (text : List ℕ) → is_utf8 text ≡ false → read_of text ≡ Err (fault.NotUtf8 (utf8_valid_len text))
 unfolding read_of
 read_of-other text e = ap (λ b. cond b (parsed text) (Err (fault.NotUtf8 (utf8_valid_len text)))) e
+
+-- reading gives the fault of a text, and no other
+pub read_of-fault : (text : List ℕ) (f : ParseFault) → IsFault text f → read_of text ≡ Err f
+read_of-fault text f h = by (is_utf8 text) refl
+  where
+    by : (b : Bool) → is_utf8 text ≡ b → read_of text ≡ Err f
+    by true e = read_of-text text e ∙ fault_only text (IsUtf8-from_is_utf8 text e) f h
+    by false e = read_of-other text e ∙ ap Err (sym (not_utf8_only text (λ u. false≢true (sym e ∙ is_utf8-from_IsUtf8 text u)) f h))
+
+pub fault-read_of : (text : List ℕ) (f : ParseFault) → read_of text ≡ Err f → IsFault text f
+fault-read_of text f h = by (is_utf8 text) refl
+  where
+    by : (b : Bool) → is_utf8 text ≡ b → IsFault text f
+    by true e = fault_is text (IsUtf8-from_is_utf8 text e) f (sym (read_of-text text e) ∙ h)
+    by false e =
+        let same : ◌≡◌ {A = Result Script ParseFault} (Err (fault.NotUtf8 (utf8_valid_len text))) (Err f) = sym (read_of-other text e) ∙ h in
+        let is : fault.NotUtf8 (utf8_valid_len text) ≡ f = cc in
+        subst (IsFault text) is (not_utf8_is text (λ u. false≢true (sym e ∙ is_utf8-from_IsUtf8 text u)))
 
 -- an answer of the parser: what reading gives, unless memory fails
 abbrev pub Gives : List ℕ → Result Script ParseFault → Type 0

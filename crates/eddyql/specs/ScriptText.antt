@@ -1,11 +1,12 @@
 -- The text of a script: it is read by the whole grammar, before anything else is asked of it.
-use Rattle.std.specs.Prelude.{◌≡◌, ◌≤◌, ℕ, List, length, Some, Result, Ok, Err, if◌then◌else◌}
+use Rattle.std.specs.Prelude.{◌≡◌, ◌⊎◌, ◌≤◌, ℕ, List, length, Some, Result, Ok, Err, if◌then◌else◌}
 use Rattle.std.specs.Str.{is_utf8}
 use Rattle.std.specs.Str.Lossy.{utf8_valid_len}
 use Rattle.sq_parse.specs.declared.parser.ParseFault.{ParseFault}
-use Rattle.sq_parse.specs.declared.parser.ParseFault.TheVariants.{NotUtf8, Memory}
+use Rattle.sq_parse.specs.declared.parser.ParseFault.TheVariants.{NotUtf8, Syntax, Memory}
 use Rattle.sq_parse.specs.declared.tree.Script.{Script}
 use Rattle.sq_parse.specs.Parse.{parsed}
+use Rattle.sq_parse.specs.Fault.{IsFault}
 use Rattle.outside.specs.Files.{File, lookup}
 use Rattle.eddyql.specs.Words.{Command, command}
 use Rattle.eddyql.specs.declared.status.Status.{Status}
@@ -25,6 +26,11 @@ or_fault (Ok x) = Ok x
 abbrev pub refusal_of : ParseFault → Status
 refusal_of Memory = status.Memory
 refusal_of fault = status.Script fault
+
+-- a text of at most 67,108,864 bytes is refused so: by its fault, or at 0 where it is a script, which isn't in the early
+-- form
+abbrev pub RefusesScript : List ℕ → ParseFault → Type 0
+RefusesScript text fault = IsFault text fault ⊎ ((fault ≡ Syntax 0) × ((other : ParseFault) → IsFault text other → ⊥))
 
 -- the words are in form, and the files hold this text of their script, which isn't too long
 pub record HasScript (words : List (List ℕ)) (files : List File) (text : List ℕ) : Type 0 where

@@ -8,7 +8,8 @@ ghost use Rattle.outside.specs.Told.{Adds, AddsFront};
 ghost use Rattle.sq_parse.specs.declared.parser.ParseFault.{ParseFault};
 ghost use Rattle.bag_meaning.specs.Bag.{bag};
 ghost use Rattle.eddyql.specs.Words.{command};
-ghost use Rattle.eddyql.specs.ScriptText.{HasScript, read_of};
+ghost use Rattle.sq_parse.specs.Fault.{IsFault};
+ghost use Rattle.eddyql.specs.ScriptText.{HasScript, RefusesScript};
 ghost use Rattle.eddyql.specs.Join.{no_meaning};
 ghost use Rattle.eddyql.specs.Writing.{HasRows, rows_of_combo};
 ghost use Rattle.eddyql.specs.Outcome.{outcome, text_of, ReachedBy};
@@ -92,8 +93,10 @@ pub fn run<F: Folder, O: Sink, N: Sink>(
     ensures usage_only { result ≡ Status.Usage → command (map string_bytes words.now) ≡ None }
     ensures usage { command (map string_bytes words.now) ≡ None → result ≡ Status.Usage }
     ensures syntax { (files : List File) → F.holds folder.old ≡ Some files → (text : List ℕ) (fault : ParseFault)
-        → HasScript (map string_bytes words.now) files text → read_of text ≡ Err fault → ¬ (Rose (F.faults folder.old) (F.faults folder.new))
+        → HasScript (map string_bytes words.now) files text → IsFault text fault → ¬ (Rose (F.faults folder.old) (F.faults folder.new))
         → (result ≡ Status.Script fault) ⊎ (result ≡ Status.Memory) }
+    ensures syntax_only { (files : List File) → F.holds folder.old ≡ Some files → (text : List ℕ) (fault : ParseFault)
+        → HasScript (map string_bytes words.now) files text → result ≡ Status.Script fault → RefusesScript text fault }
     ensures read { (file : FileOf) → result ≡ Status.Read file → Rose (F.faults folder.old) (F.faults folder.new) }
     ensures write { result ≡ Status.Write → Rose (O.faults out.old) (O.faults out.new) }
     ensures not_found { (file : FileOf) → result ≡ Status.NotFound file → IsSome (F.holds folder.old) }

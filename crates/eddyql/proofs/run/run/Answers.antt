@@ -8,6 +8,7 @@ use Rattle.eddyql.specs.Outcome.{outcome, text_of, ReachedBy}
 use Rattle.eddyql.specs.Run.{status_of, text_due}
 use Rattle.eddyql.specs.declared.status.Status.{Status}
 use Rattle.eddyql.proofs.RunLemmas.{run_of, no_command-false, no_command-none, outcome-usage, outcome_of_run, end_of_refused, MayEnd-late, ends_by_outcome, not_read, no_script, ends_by_script_fault}
+use Rattle.eddyql.proofs.ScriptFaults.{script_fault_only}
 use Rattle.eddyql.proofs.run.run.Goals as goal
 
 pub returns-then-not-is_command-clause-causes : goal.returns-then-not-is_command-clause-causes
@@ -107,3 +108,24 @@ returns-in-Err-clause-syntax g c = λ files told text fault has e calm.
     ends_by_script_fault (map string_bytes c.args.words.now) files text fault
     (λ f. Rose (g.F.Folder.faults c.args.folder.now) (g.F.Folder.faults c.prepare.new.folder) × ReachedBy (map string_bytes c.args.words.now) files f)
     (Rose (g.O.Sink.faults c.args.out.now) (g.O.Sink.faults c.args.out.now)) c.in-Err.refusal has e (returns-in-Err-clause-causes g c files told) (not_read _ _ calm)
+
+pub returns-then-not-is_command-clause-syntax_only : goal.returns-then-not-is_command-clause-syntax_only
+returns-then-not-is_command-clause-syntax_only g c = λ files told text fault has is.
+    absurd (no_script (map string_bytes c.args.words.now) files text
+    (no_command-false (map string_bytes c.args.words.now) c.is_command.result c.is_command.ensures c.if-not-is_command.true) has)
+
+pub returns-in_default-clause-syntax_only : goal.returns-in_default-clause-syntax_only
+returns-in_default-clause-syntax_only g c = λ files told text fault has is.
+    absurd (no_script (map string_bytes c.args.words.now) files text (no_command-none string_bytes c.args.words.now c.in_default.ensures.cases) has)
+
+pub returns-in-Ok-clause-syntax_only : goal.returns-in-Ok-clause-syntax_only
+returns-in-Ok-clause-syntax_only g c = λ files told text fault has is.
+    script_fault_only (map string_bytes c.args.words.now) files text fault
+    (λ f. Rose (g.F.Folder.faults c.args.folder.now) (g.F.Folder.faults c.prepare.new.folder) × ReachedBy (map string_bytes c.args.words.now) files f)
+    (Rose (g.O.Sink.faults c.args.out.now) (g.O.Sink.faults c.answer.new.out)) c.answer.result has (returns-in-Ok-clause-causes g c files told) is
+
+pub returns-in-Err-clause-syntax_only : goal.returns-in-Err-clause-syntax_only
+returns-in-Err-clause-syntax_only g c = λ files told text fault has is.
+    script_fault_only (map string_bytes c.args.words.now) files text fault
+    (λ f. Rose (g.F.Folder.faults c.args.folder.now) (g.F.Folder.faults c.prepare.new.folder) × ReachedBy (map string_bytes c.args.words.now) files f)
+    (Rose (g.O.Sink.faults c.args.out.now) (g.O.Sink.faults c.args.out.now)) c.in-Err.refusal has (returns-in-Err-clause-causes g c files told) is

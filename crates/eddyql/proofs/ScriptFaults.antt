@@ -1,0 +1,106 @@
+-- A run that is refused by a fault of its script names the fault of the text, or refuses a script that isn't in form.
+use Rattle.std.proofs.Common.{◌≡◌, ◌⊎◌, inl, inr, ℕ, ◌+◌, ◌≤◌, true, false, List, [], ◌∷◌, length, Option, Some, None, Result, Ok, Err, refl, sym, ◌∙◌, ap, subst}
+use Rattle.std.specs.Prelude.{IsOk}
+use Rattle.std.proofs.lemmas.Bool.{false≢true}
+use Rattle.outside.specs.Files.{File, lookup}
+use Rattle.sq_value.specs.Relation.{Relation}
+use Rattle.sq_expr.specs.declared.block.Block.{Block}
+use Rattle.sq_parse.specs.declared.parser.ParseFault.{ParseFault}
+use Rattle.sq_parse.specs.declared.parser.ParseFault.TheVariants.{Syntax}
+use Rattle.sq_parse.specs.declared.tree.Script.{Script}
+use Rattle.sq_parse.specs.Fault.{IsFault}
+use Rattle.eddyql.specs.Words.{Command, TableWord}
+use Rattle.eddyql.specs.Script.{JoinQuery, early_script}
+use Rattle.eddyql.specs.ScriptText.{read_of, HasScript, RefusesScript}
+use Rattle.eddyql.specs.TableText.{early_table}
+use Rattle.eddyql.specs.Binding.{block_of}
+use Rattle.eddyql.specs.Outcome.{◌>>=◌, or_refuse, join_read, table_read, tables_read, columns_at, block_bound, plan_of, outcome, text_of}
+use Rattle.eddyql.specs.Run.{MayEnd}
+use Rattle.eddyql.specs.declared.plan.Plan.{Plan}
+use Rattle.eddyql.specs.declared.status.Status.{Status}
+use Rattle.eddyql.specs.declared.status.Status.TheVariants as status
+use Rattle.eddyql.specs.declared.status.FileOf.{FileOf}
+use Rattle.eddyql.specs.declared.status.FileOf.TheVariants as file
+use Rattle.eddyql.specs.declared.status.TableFault.TheVariants.{NoHeading}
+use Rattle.eddyql.specs.declared.status.BindFault.TheVariants.{UnknownColumn}
+use Rattle.eddyql.proofs.ScriptTextLemmas.{no_join, join_read-script, read_of-fault, fault-read_of}
+use Rattle.eddyql.proofs.PlanLemmas.{behind_query, plan_of-script_fault}
+use Rattle.eddyql.proofs.RunLemmas.{outcome-plan}
+
+-- a step isn't refused by a fault of a script
+abbrev NoFault : {A : Type 0} → Result A Status → Type 0
+NoFault {A} r = (f : ParseFault) → r ≡ Err (status.Script f) → ⊥
+
+refusal : {A : Type 0} {s t : Status} → ◌≡◌ {A = Result A Status} (Err s) (Err t) → s ≡ t
+refusal e = cc
+
+no_answer : {A : Type 0} {x : A} {s : Status} → ◌≡◌ {A = Result A Status} (Ok x) (Err s) → ⊥
+no_answer e = cc
+
+or_other : {A : Type 0} (s : Status) (x : Option A) → ((f : ParseFault) → s ≡ status.Script f → ⊥) → NoFault (or_refuse s x)
+or_other s None h f e = h f (refusal e)
+or_other s (Some x) h f e = no_answer e
+
+then_other : {A B : Type 0} (r : Result A Status) (more : A → Result B Status) → NoFault r → ((x : A) → NoFault (more x)) → NoFault (r >>= more)
+then_other (Err s) more first second f e = first f (ap Err (refusal e))
+then_other (Ok x) more first second f e = second x f e
+
+other_table : (number : ℕ) (files : List File) (t : TableWord) → NoFault (table_read number files t)
+other_table number files t =
+    then_other (or_refuse (status.NotFound (file.Table number)) (lookup files t.file)) (λ bytes. or_refuse (status.BadTable number NoHeading) (early_table bytes))
+    (or_other (status.NotFound (file.Table number)) (lookup files t.file) (λ f e. cc))
+    (λ bytes. or_other (status.BadTable number NoHeading) (early_table bytes) (λ f e. cc))
+
+other_tables : (number : ℕ) (files : List File) (ts : List TableWord) → NoFault (tables_read number files ts)
+unfolding tables_read
+other_tables number files [] = λ f e. no_answer e
+other_tables number files (t ∷ ts) =
+    then_other (table_read number files t) (λ table. tables_read (number + 1) files ts >>= (λ tables. Ok (table ∷ tables))) (other_table number files t)
+    (λ table. then_other (tables_read (number + 1) files ts) (λ tables. Ok (table ∷ tables)) (other_tables (number + 1) files ts) (λ tables f e. no_answer e))
+
+other_behind : (q : JoinQuery) (c : Command) (files : List File) → NoFault (behind_query q c files)
+other_behind q c files =
+    then_other (tables_read 0 files c.tables) (λ tables. block_bound q tables >>= (λ block. Ok record { block = block; tables = tables })) (other_tables 0 files c.tables)
+    (λ tables. then_other (block_bound q tables) (λ block. Ok record { block = block; tables = tables })
+    (or_other (status.Bind 1 (UnknownColumn 0)) (block_of q (columns_at tables q.left) (columns_at tables q.right)) (λ f e. cc))
+    (λ block f e. no_answer e))
+
+same_fault : {f g : ParseFault} → status.Script f ≡ status.Script g → f ≡ g
+same_fault e = cc
+
+-- the plan of a script that parses is refused by a fault of a script only where it isn't in form
+formless : (c : Command) (files : List File) (fault : ParseFault) (found : Option JoinQuery)
+    → (or_refuse no_join found >>= (λ query. behind_query query c files)) ≡ Err (status.Script fault) → fault ≡ Syntax 0
+formless c files fault None e = sym (same_fault (refusal e))
+formless c files fault (Some q) e = absurd (other_behind q c files fault e)
+
+plan_formless : (c : Command) (files : List File) (text : List ℕ) (fault : ParseFault) → lookup files c.script ≡ Some text → length text ≤ 67108864 → IsOk (read_of text)
+    → plan_of c files ≡ Err (status.Script fault) → fault ≡ Syntax 0
+unfolding plan_of
+plan_formless c files text fault found short ok e =
+    let by_text = ap (λ (o : Option (List ℕ)). (or_refuse (status.NotFound file.Script) o >>= (λ z. join_read c.tables z)) >>= (λ query. behind_query query c files)) found in
+    let by_form = ap (λ (r : Result JoinQuery Status). r >>= (λ query. behind_query query c files)) (join_read-script c.tables text short ok) in
+    formless c files fault (early_script c.tables text) (sym by_form ∙ (sym by_text ∙ e))
+
+plan_fault : (c : Command) (files : List File) (text : List ℕ) (fault : ParseFault) (r : Result Script ParseFault) → lookup files c.script ≡ Some text → length text ≤ 67108864 → read_of text ≡ r
+    → plan_of c files ≡ Err (status.Script fault) → RefusesScript text fault
+plan_fault c files text fault (Err f) found short e h =
+    let same = same_fault (refusal (sym (plan_of-script_fault c files text f found short e) ∙ h)) in
+    inl (fault-read_of text fault (e ∙ ap Err same))
+plan_fault c files text fault (Ok s) found short e h =
+    let ok : IsOk (read_of text) = subst (λ (r : Result Script ParseFault). IsOk r) (sym e) refl in
+    inr (plan_formless c files text fault found short ok h, λ f is. no_both (sym e ∙ read_of-fault text f is))
+  where
+    no_both : {f : ParseFault} → ◌≡◌ {A = Result Script ParseFault} (Ok s) (Err f) → ⊥
+    no_both x = cc
+
+plan_refuses : (plan : Result Plan Status) (s : Status) → (plan >>= (λ p. Ok (text_of p))) ≡ Err s → plan ≡ Err s
+plan_refuses (Err t) s e = ap Err (refusal e)
+plan_refuses (Ok p) s e = absurd (no_answer e)
+
+pub script_fault_only : (words : List (List ℕ)) (files : List File) (text : List ℕ) (fault : ParseFault) (reads : FileOf → Type 0) (writes : Type 0) (s : Status)
+    → HasScript words files text → MayEnd reads writes (outcome words files) s → s ≡ status.Script fault → RefusesScript text fault
+script_fault_only words files text fault reads writes s has h e =
+    let due : outcome words files ≡ Err (status.Script fault) = subst (MayEnd reads writes (outcome words files)) e h in
+    let plan = plan_refuses (plan_of has.asked files) (status.Script fault) (sym (outcome-plan words has.asked files has.in_form) ∙ due) in
+    plan_fault has.asked files text fault (read_of text) has.found has.short refl plan
