@@ -7,3 +7,4 @@ pub mod ReadyLemmas
 pub mod OccurLemmas
 pub mod ColumnLemmas
 pub mod SampleLemmas
+pub mod WorkedFits

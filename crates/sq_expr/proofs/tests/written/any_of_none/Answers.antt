@@ -3,7 +3,7 @@ use Rattle.std.proofs.lemmas.List.Elements.{All-nil}
 use Rattle.sq_expr.specs.Fits.{FitsHere}
 use Rattle.sq_expr.specs.Samples.{IsSample, IsSampleColumn, sample_kinds}
 use Rattle.sq_expr.proofs.FitLemmas.{made-Any}
-use Rattle.sq_expr.proofs.tests.any_of_none.Goals as goal
+use Rattle.sq_expr.proofs.tests.written.any_of_none.Goals as goal
 
 pub returns : goal.returns
 returns c =

@@ -2,7 +2,7 @@ use Rattle.std.proofs.Common.{sym, subst}
 use Rattle.sq_expr.specs.Fits.{FitsHere}
 use Rattle.sq_expr.specs.Samples.{IsSample, IsSampleColumn, sample_kinds}
 use Rattle.sq_expr.proofs.FitLemmas.{made-Is}
-use Rattle.sq_expr.proofs.tests.question.Goals as goal
+use Rattle.sq_expr.proofs.tests.written.question.Goals as goal
 
 pub returns : goal.returns
 returns c =

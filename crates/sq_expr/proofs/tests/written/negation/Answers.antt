@@ -2,7 +2,7 @@ use Rattle.std.proofs.Common.{sym, subst}
 use Rattle.sq_expr.specs.Fits.{FitsHere}
 use Rattle.sq_expr.specs.Samples.{IsSample, IsSampleColumn, sample_kinds}
 use Rattle.sq_expr.proofs.FitLemmas.{made-Not}
-use Rattle.sq_expr.proofs.tests.negation.Goals as goal
+use Rattle.sq_expr.proofs.tests.written.negation.Goals as goal
 
 pub returns : goal.returns
 returns c =

@@ -1,7 +1,7 @@
 use Rattle.sq_expr.specs.Fits.{FitsHere}
 use Rattle.sq_expr.specs.Samples.{IsSampleColumn, sample_kinds}
 use Rattle.sq_expr.proofs.FitLemmas.{made-Compare}
-use Rattle.sq_expr.proofs.tests.compared.Goals as goal
+use Rattle.sq_expr.proofs.tests.written.compared.Goals as goal
 
 pub returns : goal.returns
 returns c =

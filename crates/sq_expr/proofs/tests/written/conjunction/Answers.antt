@@ -3,7 +3,7 @@ use Rattle.std.proofs.lemmas.List.Elements.{All-nil, All-cons}
 use Rattle.sq_expr.specs.Fits.{FitsHere}
 use Rattle.sq_expr.specs.Samples.{IsSample, IsSampleColumn, sample_kinds}
 use Rattle.sq_expr.proofs.FitLemmas.{made-All}
-use Rattle.sq_expr.proofs.tests.conjunction.Goals as goal
+use Rattle.sq_expr.proofs.tests.written.conjunction.Goals as goal
 
 pub returns : goal.returns
 returns c =

@@ -1,0 +1,290 @@
+//! Conditions written in words, over the table of the tests.
+//!
+//! An operator stands before its parts: `not eq cid 1` is NOT cid = 1. A sum is one word, as
+//! `8*amt+-1*amt`. Columns in small letters are of alias 0, and columns in capitals of alias 1.
+//! `eq'` and `lt'` compare texts. What is read fits the tables.
+ghost use Rattle.std.specs.Prelude.{◌<◌, length, All, IfOk, IfSome};
+ghost use Rattle.sq_value.specs.declared.value.ColType.TheVariants as kinds;
+ghost use Rattle.sq_expr.specs.Fits.{FitsSide, FitsArg, FitsTerm};
+ghost use Rattle.sq_expr.specs.Samples.{IsSample, IsSampleColumn};
+ghost use Rattle.sq_expr.specs.declared.cond.Term.{Term};
+
+use crate::{Arg, ColumnOf, Cond, Side, Term};
+use sq_value::{Cmp, ColType, SqText, Tables, Truth, Value, read_int};
+use sqlite_items::{Boxed, Items};
+use std::alloc::Global;
+use std::mem;
+use std::test::Fail;
+
+/// The alias and the number of the column that a word names.
+fn place_of(word: &str) -> Option<(u8, usize)>
+    ensures { IfSome result (λ p. p.0 < 2) }
+{
+    match word {
+        "cid" => Some((0, 0)),
+        "amt" => Some((0, 1)),
+        "name" => Some((0, 2)),
+        "CID" => Some((1, 0)),
+        "AMT" => Some((1, 1)),
+        "NAME" => Some((1, 2)),
+        _ => None,
+    }
+}
+
+/// The column that a word names, and its type.
+fn column(tables: &Tables, word: &str) -> Option<(ColumnOf, ColType)>
+    requires { 0 < length tables.now }
+    ensures { IfSome result (λ p. IsSampleColumn tables.now p.0 p.1) }
+{
+    let (alias, place) = place_of(word)?;
+    let kind = tables.get(0).columns().get(place)?.kind;
+    let column = place as u32;
+    Some((ColumnOf { alias, column }, kind))
+}
+
+/// A term of a sum: an integer, or an integer times a column.
+fn term(tables: &Tables, word: &str) -> Option<Term>
+    requires { 0 < length tables.now }
+    ensures { IfSome result (λ (t : Term). FitsTerm (IsSampleColumn tables.now) t.factor t.column) }
+{
+    let Some((factor, name)) = word.split_once('*') else {
+        let factor = read_int(word).ok()?;
+        let column = None;
+        return (factor > i64::MIN).then_some(Term { factor, column });
+    };
+    let factor = read_int(factor).ok()?;
+    let (column, kind) = column(tables, name)?;
+    if kind != ColType::Integer || factor < -2147483647 || factor > 2147483647 {
+        return None;
+    }
+    let column = Some(column);
+    Some(Term { factor, column })
+}
+
+/// The terms of a sum.
+fn terms(alloc: Global, tables: &Tables, word: &str) -> Result<Vec<Term>, Fail>
+    requires { 0 < length tables.now }
+    ensures { IfOk result (λ v. All (λ (t : Term). FitsTerm (IsSampleColumn tables.now) t.factor t.column) v.items) }
+{
+    let mut terms = Vec::new(alloc);
+    for part in word.split('+') {
+        terms.push(term(tables, part).ok_or("a term")?)?;
+    }
+    Ok(terms)
+}
+
+/// The sum that a word writes.
+fn sum(alloc: Global, tables: &Tables, word: &str) -> Result<Side, Fail>
+    requires { 0 < length tables.now }
+    ensures { IfOk result (λ s. FitsSide (IsSampleColumn tables.now) kinds.Integer s) }
+{
+    let terms = terms(alloc, tables, word)?;
+    if terms.len() == 0 || terms.len() > 8 {
+        return Err("1 to 8 terms".into());
+    }
+    Ok(Side::Sum(Items::from_vec(terms)))
+}
+
+/// The side of this type that a word writes.
+pub fn operand(alloc: Global, tables: &Tables, word: &str, kind: ColType) -> Result<Side, Fail>
+    requires { 0 < length tables.now }
+    ensures { IfOk result (λ s. FitsSide (IsSampleColumn tables.now) kind s) }
+{
+    if word == "null" {
+        return Ok(Side::Null);
+    }
+    if let Some((column, found)) = column(tables, word) {
+        if found == kind {
+            return Ok(Side::Column(column));
+        }
+    }
+    match kind {
+        ColType::Integer => sum(alloc, tables, word),
+        ColType::Text => Ok(Side::Text(SqText::of(alloc, word)?)),
+    }
+}
+
+/// The comparison that a word writes, and the type of its sides.
+fn comparison(word: &str) -> Option<(Cmp, ColType)> {
+    match word {
+        "eq" => Some((Cmp::Eq, ColType::Integer)),
+        "ne" => Some((Cmp::Ne, ColType::Integer)),
+        "lt" => Some((Cmp::Lt, ColType::Integer)),
+        "le" => Some((Cmp::Le, ColType::Integer)),
+        "gt" => Some((Cmp::Gt, ColType::Integer)),
+        "ge" => Some((Cmp::Ge, ColType::Integer)),
+        "eq'" => Some((Cmp::Eq, ColType::Text)),
+        "lt'" => Some((Cmp::Lt, ColType::Text)),
+        _ => None,
+    }
+}
+
+fn compared(
+    alloc: Global,
+    tables: &Tables,
+    how: (Cmp, ColType),
+    words: &mut Words<'_>,
+) -> Result<Cond, Fail>
+    requires { 0 < length tables.now }
+    ensures { IfOk result (IsSample tables.now) }
+{
+    let (cmp, kind) = how;
+    let left = operand(alloc, tables, words.next(), kind)?;
+    let right = operand(alloc, tables, words.next(), kind)?;
+    Ok(Cond::Compare(left, cmp, right))
+}
+
+fn tested(alloc: Global, tables: &Tables, word: &str) -> Result<Cond, Fail>
+    requires { 0 < length tables.now }
+    ensures { IfOk result (IsSample tables.now) }
+{
+    let side = operand(alloc, tables, word, ColType::Integer)?;
+    Ok(Cond::IsNull(side))
+}
+
+fn argument(tables: &Tables, word: &str) -> Result<Arg, Fail>
+    requires { 0 < length tables.now }
+    ensures { IfOk result (λ a. FitsArg (IsSampleColumn tables.now) kinds.Integer a) }
+{
+    if word == "null" {
+        return Ok(Arg::Literal(Value::Null));
+    }
+    match column(tables, word) {
+        Some((column, ColType::Integer)) => Ok(Arg::Column(column)),
+        _ => Ok(Arg::Literal(Value::Int(read_int(word).ok().ok_or("an argument")?))),
+    }
+}
+
+fn called(tables: &Tables, words: &mut Words<'_>) -> Result<Cond, Fail>
+    requires { 0 < length tables.now }
+    ensures { IfOk result (IsSample tables.now) }
+{
+    let first = argument(tables, words.next())?;
+    let second = argument(tables, words.next())?;
+    Ok(Cond::Call(0, first, second))
+}
+
+fn negation(alloc: Global, _tables: &Tables, part: Cond) -> Result<Cond, Fail>
+    requires { IsSample _tables.now part }
+    ensures { IfOk result (IsSample _tables.now) }
+{
+    Ok(Cond::Not(Boxed::new(alloc, part)?))
+}
+
+fn question(alloc: Global, _tables: &Tables, part: Cond, named: Truth) -> Result<Cond, Fail>
+    requires { IsSample _tables.now part }
+    ensures { IfOk result (IsSample _tables.now) }
+{
+    Ok(Cond::Is(Boxed::new(alloc, part)?, named))
+}
+
+fn conjunction(alloc: Global, _tables: &Tables, left: Cond, right: Cond) -> Result<Cond, Fail>
+    requires left { IsSample _tables.now left }
+    requires right { IsSample _tables.now right }
+    ensures { IfOk result (IsSample _tables.now) }
+{
+    Ok(Cond::All(Items::from_vec(vec![in alloc; left, right]?)))
+}
+
+fn disjunction(alloc: Global, _tables: &Tables, left: Cond, right: Cond) -> Result<Cond, Fail>
+    requires left { IsSample _tables.now left }
+    requires right { IsSample _tables.now right }
+    ensures { IfOk result (IsSample _tables.now) }
+{
+    Ok(Cond::Any(Items::from_vec(vec![in alloc; left, right]?)))
+}
+
+fn all_of_none(alloc: Global, _tables: &Tables) -> Cond
+    ensures { IsSample _tables.now result }
+{
+    Cond::All(Items::new(alloc))
+}
+
+fn any_of_none(alloc: Global, _tables: &Tables) -> Cond
+    ensures { IsSample _tables.now result }
+{
+    Cond::Any(Items::new(alloc))
+}
+
+/// A condition without parts, whose first word is this.
+fn simple(alloc: Global, tables: &Tables, word: &str, words: &mut Words<'_>) -> Result<Cond, Fail>
+    requires { 0 < length tables.now }
+    ensures { IfOk result (IsSample tables.now) }
+{
+    if let Some(how) = comparison(word) {
+        return compared(alloc, tables, how, words);
+    }
+    match word {
+        "isnull" => tested(alloc, tables, words.next()),
+        "below" => called(tables, words),
+        "and0" => Ok(all_of_none(alloc, tables)),
+        "or0" => Ok(any_of_none(alloc, tables)),
+        _ => Err("a condition".into()),
+    }
+}
+
+/// The words that aren't read yet.
+#[derive(Drop)]
+pub struct Words<'t> {
+    pub rest: &'t str,
+}
+
+impl<'t> Words<'t> {
+    fn next(&mut self) -> &'t str {
+        match self.rest.split_once(' ') {
+            Some((word, rest)) => {
+                self.rest = rest;
+                word
+            }
+            None => mem::replace(&mut self.rest, ""),
+        }
+    }
+}
+
+/// The condition that the next words write.
+pub fn condition(
+    alloc: Global,
+    tables: &Tables,
+    words: &mut Words<'_>,
+    depth: u8,
+) -> Result<Cond, Fail>
+    requires { 0 < length tables.now }
+    ensures { IfOk result (IsSample tables.now) }
+{
+    if depth == 0 {
+        return Err("less depth".into());
+    }
+    let depth = depth - 1;
+    match words.next() {
+        "not" => negation(alloc, tables, condition(alloc, tables, words, depth)?),
+        "istrue" => question(
+            alloc,
+            tables,
+            condition(alloc, tables, words, depth)?,
+            Truth::True,
+        ),
+        "isfalse" => question(
+            alloc,
+            tables,
+            condition(alloc, tables, words, depth)?,
+            Truth::False,
+        ),
+        "isunknown" => question(
+            alloc,
+            tables,
+            condition(alloc, tables, words, depth)?,
+            Truth::Unknown,
+        ),
+        "and" => {
+            let left = condition(alloc, tables, words, depth)?;
+            let right = condition(alloc, tables, words, depth)?;
+            conjunction(alloc, tables, left, right)
+        }
+        "or" => {
+            let left = condition(alloc, tables, words, depth)?;
+            let right = condition(alloc, tables, words, depth)?;
+            disjunction(alloc, tables, left, right)
+        }
+        word => simple(alloc, tables, word, words),
+    }
+}
