@@ -1,15 +1,14 @@
 -- A comparison of two columns.
-use Rattle.std.proofs.Common.{◌≡◌, ℕ, zero, suc, ◌<◌, List, [], ◌∷◌, Option, Some, subst, sym, arith}
+use Rattle.std.proofs.Common.{◌≡◌, ℕ, zero, suc, List, [], ◌∷◌, Option, Some, subst, arith}
 use Rattle.std.specs.Prelude.{Contains, IsBitSet}
 use Rattle.sq_value.specs.Relation.{Relation}
 use Rattle.sq_value.specs.declared.value.ColType.{ColType}
 use Rattle.sq_value.specs.declared.value.Cmp.{Cmp}
 use Rattle.sq_value.specs.declared.predicate.Kinds.{Kinds}
 use Rattle.sq_expr.specs.declared.cond.ColumnOf.{ColumnOf}
-use Rattle.sq_expr.specs.declared.cond.Cond.{Cond}
 use Rattle.sq_expr.specs.declared.cond.Side.TheVariants.{Column}
 use Rattle.sq_expr.specs.declared.cond.Cond.TheVariants.{Compare}
-use Rattle.sq_expr.specs.Fits.{FitsCond, FitsHere, Covers, HasRow, kind_in, aliases_of}
+use Rattle.sq_expr.specs.Fits.{FitsCond, FitsHere, Covers, HasRow, kind_in}
 use Rattle.sq_expr.proofs.FitLemmas.{made-Compare, aliases_of-Compare}
 
 -- it fits where both are of one type

@@ -1,21 +1,16 @@
 -- What fits a condition fits its parts, and the other way round.
-use Rattle.std.proofs.Common.{◌≡◌, ℕ, ◌<◌, List, [], ◌∷◌, ◌++◌, length, map, Option, Some, None, refl, ap, sym, subst, ◌∙◌, arith, get_or}
-use Rattle.std.specs.Prelude.{All, Contains, ⊤}
-use Rattle.std.specs.List.{concat, flat_map}
+use Rattle.std.proofs.Common.{◌≡◌, ℕ, List, [], ◌∷◌, ◌++◌, map, refl, ap, subst, ◌∙◌, get_or}
+use Rattle.std.specs.Prelude.{All}
+use Rattle.std.specs.List.{concat}
 use Rattle.std.proofs.lemmas.List.Elements.{All-map, All-head, All-tail}
-use Rattle.sq_value.specs.declared.value.Value.{Value}
 use Rattle.sq_value.specs.declared.value.Truth.{Truth}
-use Rattle.sq_value.specs.declared.value.ColType.{ColType}
 use Rattle.sq_value.specs.declared.value.Cmp.{Cmp}
-use Rattle.sq_value.specs.declared.predicate.Kinds.{Kinds}
-use Rattle.sq_expr.specs.declared.cond.ColumnOf.{ColumnOf}
-use Rattle.sq_expr.specs.declared.cond.Term.{Term}
 use Rattle.sq_expr.specs.declared.cond.Side.{Side}
 use Rattle.sq_expr.specs.declared.cond.Arg.{Arg}
-use Rattle.sq_expr.specs.declared.cond.Cond.{Cond, Cond-F, map-Cond, fold_out-Cond, out-Cond, ind-Cond, every-Cond, every_here-Cond, every_held-Cond, every_made-Cond}
+use Rattle.sq_expr.specs.declared.cond.Cond.{Cond, Cond-F, map-Cond, fold_out-Cond, out-Cond, every-Cond, every_here-Cond, every_held-Cond, every_made-Cond}
 use Rattle.sq_expr.specs.declared.cond.Cond.TheOpen as level
 use Rattle.sq_expr.specs.declared.cond.Cond.TheVariants as variants
-use Rattle.sq_expr.specs.Fits.{FitsHere, FitsSide, FitsArg, FitsTerm, aliases_of, aliases_at_level, side_aliases, arg_aliases}
+use Rattle.sq_expr.specs.Fits.{aliases_of, aliases_at_level, side_aliases, arg_aliases}
 
 -- the aliases of a condition, case by case
 pub aliases_of-Compare : (x : Side) (how : Cmp) (y : Side) → aliases_of (variants.Compare x how y) ≡ side_aliases x ++ side_aliases y

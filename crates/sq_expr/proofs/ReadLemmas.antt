@@ -1,5 +1,4 @@
 -- Sides of one type may be compared.
-use Rattle.std.proofs.Common.{◌≡◌}
 use Rattle.sq_value.specs.Relation.{HasKind}
 use Rattle.sq_value.specs.Comparison.{Comparable}
 use Rattle.sq_value.specs.declared.value.Value.{Value}

@@ -1,6 +1,6 @@
 -- A condition that fits, over rows that are there, may be evaluated.
-use Rattle.std.proofs.Common.{◌≡◌, ℕ, ◌<◌, List, length, map, Option, Some, None, refl, ap, sym, subst, ◌∙◌, arith}
-use Rattle.std.specs.Prelude.{Contains, slice_get, slice_index, option_and_then}
+use Rattle.std.proofs.Common.{◌≡◌, ℕ, ◌<◌, List, length, Option, Some, None, refl, ap, sym, subst, ◌∙◌, arith}
+use Rattle.std.specs.Prelude.{slice_get, slice_index, option_and_then}
 use Rattle.std.specs.Option.{option_map}
 use Rattle.std.proofs.lemmas.Option.{slice_get_within, get_or_from_slice_get, same_Some, option_and_then_some}
 use Rattle.sq_value.specs.Relation.{Relation}
@@ -9,7 +9,7 @@ use Rattle.sq_value.specs.declared.table.Column.{Column}
 use Rattle.sq_value.specs.declared.predicate.Kinds.{Kinds}
 use Rattle.sq_expr.specs.declared.cond.ColumnOf.{ColumnOf}
 use Rattle.sq_expr.specs.declared.cond.Cond.{Cond}
-use Rattle.sq_expr.specs.Fits.{FitsCond, Covers, HasRow, kind_in, column_kind, aliases_of}
+use Rattle.sq_expr.specs.Fits.{FitsCond, Covers, HasRow, kind_in, column_kind}
 use Rattle.sq_expr.specs.Reading.{IsInRange, IsSeen, IsReady}
 use Rattle.sq_expr.proofs.WeakerLemmas.{every-also}
 

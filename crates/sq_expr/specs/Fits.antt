@@ -2,7 +2,6 @@
 use Rattle.std.specs.Prelude.{◌≡◌, ℕ, ◌<◌, ◌≤◌, ◌⊎◌, ◌↔◌, List, [], ◌∷◌, ◌++◌, length, map, Option, Some, None, IsSome, IfSome, IsSomeAnd, All, Contains, IsBitSet, ℤ, true, ⊤, slice_get, slice_index, option_and_then, unsigned_abs}
 use Rattle.std.specs.List.{flat_map, concat}
 use Rattle.std.specs.Option.{option_map, option_to_list}
-use Rattle.sq_value.specs.declared.value.Value.{Value}
 use Rattle.sq_value.specs.declared.value.ColType.{ColType}
 use Rattle.sq_value.specs.declared.value.ColType.TheVariants.{Integer, Text}
 use Rattle.sq_value.specs.declared.predicate.Kinds.{Kinds}

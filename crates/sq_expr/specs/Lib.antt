@@ -3,3 +3,4 @@ pub mod Fits
 pub mod Plain
 pub mod Reading
 pub mod Seen
+pub mod Samples

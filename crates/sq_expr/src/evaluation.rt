@@ -1,4 +1,5 @@
 ghost use Rattle.std.specs.Prelude.{◌≡◌, All, map, IsSomeAnd};
+ghost use Rattle.sq_value.specs.Comparison as spec;
 ghost use Rattle.sq_value.specs.Truth.{is_truth};
 ghost use Rattle.sq_expr.specs.Meaning.{truth_of, value_in, arg_value, least, greatest};
 ghost use Rattle.sq_expr.specs.Fits.{FitsCond, FitsArg, Covers};
@@ -8,10 +9,11 @@ use crate::cond::{Arg, Chosen, Cond};
 use crate::operand::{argument, compare_sides, is_null, two_valued};
 use sq_value::{Predicates, Truth, and, not, or};
 
-fn is_truth(x: Truth, named: Truth) -> bool
-    ensures { result ≡ is_truth x named }
+// IS: whether a truth is the named one.
+fn asked(x: Truth, named: Truth) -> Truth
+    ensures { result ≡ spec.two_valued (is_truth x named) }
 {
-    x == named
+    two_valued(x == named)
 }
 
 // What a predicate gives of two arguments over the chosen rows.
@@ -54,6 +56,7 @@ fn greatest<F: Predicates>(parts: &[Cond], rows: &Chosen<'_>, functions: &F) -> 
     greatest
 }
 
+// The truth of a condition whose columns stand in the chosen rows.
 #[cycle(evaluation)]
 fn evaluate<F: Predicates>(cond: &Cond, rows: &Chosen<'_>, functions: &F) -> Truth
     requires { IsReady (F.kinds_of functions.now) rows.now.tables.now rows.now.uses rows.now.rows cond.now }
@@ -66,10 +69,7 @@ fn evaluate<F: Predicates>(cond: &Cond, rows: &Chosen<'_>, functions: &F) -> Tru
         Cond::Not(part) => not(evaluate(part.get(), rows, functions)),
         Cond::All(parts) => least(parts.as_slice(), rows, functions),
         Cond::Any(parts) => greatest(parts.as_slice(), rows, functions),
-        Cond::Is(part, named) => two_valued(is_truth(
-            evaluate(part.get(), rows, functions),
-            *named,
-        )),
+        Cond::Is(part, named) => asked(evaluate(part.get(), rows, functions), *named),
     }
 }
 

@@ -1,8 +1,8 @@
-use Rattle.std.proofs.Common.{◌≡◌, List, map, All, sym, ap, subst, ◌∙◌, rules}
+use Rattle.std.proofs.Common.{List, map, All, sym, ap, subst, ◌∙◌, rules}
 use Rattle.sq_value.specs.Truth.{negated, is_truth}
 use Rattle.sq_value.specs.Comparison.{two_valued}
 use Rattle.sq_value.specs.declared.value.Truth.{Truth}
-use Rattle.sq_expr.specs.Meaning.{truth_of, value_in, arg_value, least, greatest}
+use Rattle.sq_expr.specs.Meaning.{truth_of, value_in, least, greatest}
 use Rattle.sq_expr.specs.Fits.{FitsHere}
 use Rattle.sq_expr.specs.Reading.{IsSeen, IsReady}
 use Rattle.sq_expr.specs.declared.cond.Cond.{Cond, the_lemmas}
@@ -96,5 +96,4 @@ evaluate-returns-in-Is g t c =
     let at = value_in c.args.rows.now.tables.now c.args.rows.now.uses c.args.rows.now.rows in
     let of = truth_of g.F.Predicates.gives at in
     let part = c.evaluate-in-Is.ensures ∙ ap of c.get-in-Is.ensures in
-    c.two_valued-in-Is.ensures ∙ ap two_valued (c.is_truth.ensures ∙ ap (λ (x : Truth). is_truth x c.in-Is.named) part)
-    ∙ sym (ap of c.in-Is.is ∙ truth_of-Is _ at _ _)
+    c.asked.ensures ∙ ap (λ (x : Truth). two_valued (is_truth x c.in-Is.named)) part ∙ sym (ap of c.in-Is.is ∙ truth_of-Is _ at _ _)

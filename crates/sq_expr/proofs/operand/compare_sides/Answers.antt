@@ -1,4 +1,3 @@
-use Rattle.std.proofs.Common.{◌≡◌}
 use Rattle.sq_expr.proofs.ReadLemmas.{Comparable-kind}
 use Rattle.sq_expr.proofs.operand.compare_sides.Goals as goal
 

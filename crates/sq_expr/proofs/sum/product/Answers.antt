@@ -1,4 +1,4 @@
-use Rattle.std.proofs.Common.{◌≡◌, ℤ, subst, sym, pos, neg_ℤ, ◌≤ℤ◌, ◌^◌}
+use Rattle.std.proofs.Common.{ℤ, subst, sym, pos, neg_ℤ, ◌≤ℤ◌, ◌^◌}
 use Rattle.sq_expr.proofs.SumLemmas.{product_within, product_read}
 use Rattle.sq_expr.proofs.sum.product.Goals as goal
 

@@ -1,0 +1,4 @@
+use Rattle.sq_expr.proofs.tests.+condition.Given as goal
+
+abbrev pub decreases-condition : goal.decreases-condition
+decreases-condition l = l.depth
