@@ -20,3 +20,7 @@ pub mod StepLemmas
 pub mod OrderLemmas
 pub mod RunLemmas
 pub mod ScriptFaults
+pub mod EarlyMarks
+pub mod EarlyPieces
+pub mod EarlyGrammar
+pub mod EarlyParsed

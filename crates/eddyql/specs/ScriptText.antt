@@ -8,7 +8,8 @@ use Rattle.sq_parse.specs.declared.tree.Script.{Script}
 use Rattle.sq_parse.specs.Parse.{parsed}
 use Rattle.sq_parse.specs.Fault.{IsFault}
 use Rattle.outside.specs.Files.{File, lookup}
-use Rattle.eddyql.specs.Words.{Command, command}
+use Rattle.eddyql.specs.Words.{Command, TableWord, command}
+use Rattle.eddyql.specs.Script.{JoinQuery, early_script}
 use Rattle.eddyql.specs.declared.status.Status.{Status}
 use Rattle.eddyql.specs.declared.status.Status.TheVariants as status
 
@@ -38,3 +39,7 @@ pub record HasScript (words : List (List ℕ)) (files : List File) (text : List 
   pub in_form : command words ≡ Some asked
   pub found : lookup files asked.script ≡ Some text
   pub short : length text ≤ 67108864
+
+-- the law that a script in the early form is a script of the grammar
+abbrev pub EarlyParses : Type 0
+EarlyParses = (tables : List TableWord) (text : List ℕ) (query : JoinQuery) → early_script tables text ≡ Some query → (script : Script) × (read_of text ≡ Ok script)

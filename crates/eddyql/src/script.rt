@@ -8,6 +8,7 @@ ghost use Rattle.sq_value.specs.Name.{is_same_name};
 ghost use Rattle.eddyql.specs.Words.{table_of_word};
 ghost use Rattle.eddyql.specs.Script as spec;
 ghost use Rattle.eddyql.specs.Seen.{token_seen, join_seen};
+ghost use Rattle.eddyql.specs.ScriptText.{EarlyParses};
 
 mod tokens;
 
@@ -205,6 +206,11 @@ pub fn read_script<'s>(
     let tokens = first_tokens(alloc, TOKENS_READ, text)?;
     Ok(join_of_tokens(tables, &tokens))
 }
+
+/// The law that a script in the early form is a script of the grammar. It does nothing.
+pub fn early_parses()
+    ensures { EarlyParses }
+{}
 
 #[cfg(test)]
 mod tests {
