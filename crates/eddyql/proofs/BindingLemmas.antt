@@ -1,9 +1,9 @@
 -- Output columns, and the block of a join.
-use Rattle.std.proofs.Common.{◌≡◌, ℕ, zero, suc, ◌+◌, ◌<◌, ◌≤◌, List, [], ◌∷◌, ◌++◌, length, take, get_or, refl, sym, ◌∙◌, ap, arith, append_assoc}
+use Rattle.std.proofs.Common.{◌≡◌, ℕ, suc, ◌+◌, ◌<◌, List, [], ◌∷◌, ◌++◌, length, take, get_or, refl, sym, ◌∙◌, ap, arith, append_assoc}
 use Rattle.std.proofs.lemmas.List.{take_more, length-take-le}
 use Rattle.sq_value.specs.declared.table.Column.{Column}
 use Rattle.sq_expr.specs.declared.block.OutCol.{OutCol}
-use Rattle.std.specs.Prelude.{Option, Some, None, slice_get}
+use Rattle.std.specs.Prelude.{Some, None, slice_get}
 use Rattle.sq_value.specs.Relation.{Relation}
 use Rattle.sq_expr.specs.declared.block.Block.{Block}
 use Rattle.eddyql.specs.Binding.{columns_of, column_named, block_of, block_with}

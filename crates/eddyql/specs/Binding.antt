@@ -1,5 +1,5 @@
 -- The block of an early script over its tables: SELECT * of both, joined by one equality.
-use Rattle.std.specs.Prelude.{ℕ, ◌+◌, Bool, true, List, [], ◌∷◌, ◌++◌, Option, Some, None, position}
+use Rattle.std.specs.Prelude.{ℕ, ◌+◌, true, List, [], ◌∷◌, ◌++◌, Option, Some, None, position}
 use Rattle.sq_value.specs.Name.{is_same_name}
 use Rattle.sq_value.specs.declared.table.Column.{Column}
 use Rattle.sq_expr.specs.declared.block.AliasUse.{AliasUse}

@@ -1,5 +1,5 @@
 -- When an answer can be written: its columns and rows are in range.
-use Rattle.std.specs.Prelude.{◌≡◌, ℕ, ◌<◌, ◌≤◌, List, length, map, take, All, Some, slice_get, slice_index}
+use Rattle.std.specs.Prelude.{◌≡◌, ℕ, ◌<◌, ◌≤◌, List, length, take, Some, slice_get, slice_index}
 use Rattle.csv.specs.Writing.{row_text, default_writer}
 use Rattle.sq_value.specs.Relation.{Relation}
 use Rattle.sq_expr.specs.declared.block.Block.{Block}

@@ -1,6 +1,5 @@
-use Rattle.std.proofs.Common.{◌≡◌, ℕ, List, [], ◌∷◌, ◌++◌, ap, ◌∙◌}
-use Rattle.sq_expr.specs.declared.block.OutCol.{OutCol}
-use Rattle.eddyql.proofs.BindingLemmas.{columns_of-more, output_column}
+use Rattle.std.proofs.Common.{ℕ, List, [], ◌∷◌, ◌++◌, ap, ◌∙◌}
+use Rattle.eddyql.proofs.BindingLemmas.{columns_of-more}
 use Rattle.eddyql.proofs.binding.push_columns.Goals as goal
 
 pub loop-index-preserved : goal.loop-index-preserved

@@ -1,20 +1,15 @@
-use Rattle.std.proofs.Common.{◌≡◌, ℕ, ◌+◌, ◌<◌, List, [], ◌∷◌, ◌++◌, Option, Some, Ok, Result, length, take, get_or, map, refl, sym, ap, subst, ◌∙◌, arith}
-use Rattle.std.specs.Prelude.{All, IsOk}
+use Rattle.std.proofs.Common.{◌≡◌, ◌<◌, List, [], ◌∷◌, Ok, length, map, refl, sym, ap, ◌∙◌, arith}
 use Rattle.std.specs.String.{string_bytes}
 use Rattle.std.proofs.lemmas.List.{length-append}
 use Rattle.std.proofs.lemmas.List.Elements.{All-nil, All-push, All-same}
 use Rattle.std.proofs.lemmas.Result.{err_from_is_err_and}
-use Rattle.outside.specs.Files.{File}
-use Rattle.outside.specs.Faults.{NeverFalls, Rose}
 use Rattle.outside.proofs.Laws.{Rose-earlier}
 use Rattle.sq_value.specs.Relation.{Relation}
-use Rattle.eddyql.specs.Words.{TableWord, table_of_word}
+use Rattle.eddyql.specs.Words.{table_of_word}
 use Rattle.eddyql.specs.Outcome.{tables_read, table_read, ReachedTable}
-use Rattle.eddyql.specs.Refusal.{MayRefuse}
-use Rattle.eddyql.specs.Loaded.{IsIntegerTable, AddsTable}
+use Rattle.eddyql.specs.Loaded.{IsIntegerTable}
 use Rattle.eddyql.specs.declared.status.FileOf.{FileOf}
 use Rattle.eddyql.specs.declared.status.FileOf.TheVariants as file
-use Rattle.eddyql.specs.declared.status.Status.{Status}
 use Rattle.eddyql.proofs.OutcomeLemmas.{tables_read-more, MayRefuse-next, MayRefuse-same, reads_weaker, next_reached, word_told, length-table_words}
 use Rattle.eddyql.proofs.loading.load_tables.Goals as goal
 

@@ -1,4 +1,4 @@
-use Rattle.std.proofs.Common.{◌≡◌, ◌++◌, refl}
+use Rattle.std.proofs.Common.{refl}
 use Rattle.std.proofs.lemmas.List.{append-nil}
 use Rattle.eddyql.proofs.TextLemmas.{escaped_none, escaped_step}
 use Rattle.eddyql.proofs.writing.push_quoted.Goals as goal

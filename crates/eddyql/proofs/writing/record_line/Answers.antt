@@ -1,4 +1,4 @@
-use Rattle.std.proofs.Common.{◌≡◌, ℕ, List, ◌++◌, get_or, ap, ◌∙◌}
+use Rattle.std.proofs.Common.{List, ◌++◌, get_or, ap, ◌∙◌}
 use Rattle.csv.specs.Writing.{default_writer, field_text}
 use Rattle.sq_expr.specs.Meaning.{value_in}
 use Rattle.sq_expr.specs.declared.block.OutCol.{OutCol}

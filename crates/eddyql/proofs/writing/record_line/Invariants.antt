@@ -1,6 +1,6 @@
 use Rattle.std.proofs.Common.{◌≡◌, take}
 use Rattle.csv.specs.Writing.{default_writer, row_body}
-use Rattle.bag_meaning.specs.Answer.{heading_fields, row_fields}
+use Rattle.bag_meaning.specs.Answer.{row_fields}
 use Rattle.eddyql.specs.Writing.{rows_of_combo}
 use Rattle.eddyql.proofs.writing.record_line.Given as goal
 

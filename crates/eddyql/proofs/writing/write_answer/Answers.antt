@@ -1,4 +1,3 @@
-use Rattle.std.proofs.Common.{ℕ, List}
 use Rattle.std.specs.List.{flat_map}
 use Rattle.std.proofs.lemmas.Result.{err_from_is_err_and}
 use Rattle.csv.specs.Writing.{row_text, default_writer}
