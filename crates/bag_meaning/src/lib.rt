@@ -2,7 +2,7 @@
 //! and its text, and the credit of a match to the latest of its parts to be built.
 //!
 //! The definitions stand in specs/. [`plain`] is their own program, by nested loops, with which
-//! the engine's ways are compared; the engine itself has no product and no nested loop.
+//! the engine's ways are compared.
 #![tactic(auto)]
 
 mod combo;

@@ -196,7 +196,7 @@ IsEarly-weaker told tells (status.Read g) f h = tt
 IsEarly-weaker told tells status.Done f h = h
 IsEarly-weaker told tells status.Write f h = h
 IsEarly-weaker told tells status.Usage f h = h
-IsEarly-weaker told tells (status.Script g) f h = tt
+IsEarly-weaker told tells (status.Script g) f h = h
 IsEarly-weaker told tells (status.Bind n g) f h = tt
 IsEarly-weaker told tells (status.BadTable n g) f h = tt
 IsEarly-weaker told tells (status.NotFound g) f h = f h
@@ -214,6 +214,6 @@ pub reads_weaker : (rose rises : Type 0) (P Q : FileOf → Type 0) → (rose →
 reads_weaker rose rises P Q a b f h = (a h.0, b f h.1)
 
 -- a table that is next is reached
-pub next_reached : (files : List File) (all : List TableWord) (i : ℕ) (tables : List Relation) → tables_read 0 files (take i all) ≡ Ok tables
+pub next_reached : (files : List File) (all : List TableWord) (i : ℕ) (tables : List Relation) → i < length all → tables_read 0 files (take i all) ≡ Ok tables
     → (f : FileOf) → f ≡ file.Table i → ReachedTable files all f
-next_reached files all i tables e f is = subst (ReachedTable files all) (sym is) (subst (λ (o : Result (List Relation) Status). IsOk o) (sym e) refl)
+next_reached files all i tables within e f is = subst (ReachedTable files all) (sym is) (within, subst (λ (o : Result (List Relation) Status). IsOk o) (sym e) refl)

@@ -4,6 +4,7 @@ use Rattle.std.specs.Prelude.{IsOk}
 use Rattle.outside.specs.Files.{File, lookup}
 use Rattle.sq_parse.specs.declared.parser.ParseFault.{ParseFault}
 use Rattle.sq_parse.specs.declared.parser.ParseFault.TheVariants.{Syntax}
+use Rattle.sq_parse.specs.declared.parser.ParseFault.TheVariants as parser
 use Rattle.sq_parse.specs.declared.tree.Script.{Script}
 use Rattle.eddyql.specs.Words.{Command, TableWord}
 use Rattle.eddyql.specs.Script.{JoinQuery, early_script}
@@ -11,7 +12,8 @@ use Rattle.eddyql.specs.ScriptText.{read_of, HasScript, RefusesScript}
 use Rattle.eddyql.specs.TableText.{early_table}
 use Rattle.eddyql.specs.Binding.{block_of}
 use Rattle.eddyql.specs.Outcome.{◌>>=◌, or_refuse, join_read, table_read, tables_read, columns_at, block_bound, plan_of, outcome, text_of}
-use Rattle.eddyql.specs.Run.{MayEnd}
+use Rattle.eddyql.specs.Refusal.{IsEarly}
+use Rattle.eddyql.specs.Run.{MayEnd, IsLate}
 use Rattle.eddyql.specs.declared.plan.Plan.{Plan}
 use Rattle.eddyql.specs.declared.status.Status.{Status}
 use Rattle.eddyql.specs.declared.status.Status.TheVariants as status
@@ -66,12 +68,12 @@ same_fault e = cc
 
 -- the plan of a script that parses is refused by a fault of a script only where it isn't in form
 formless : (c : Command) (files : List File) (fault : ParseFault) (found : Option JoinQuery)
-    → (or_refuse no_join found >>= (λ query. behind_query query c files)) ≡ Err (status.Script fault) → fault ≡ Syntax 0
-formless c files fault None e = sym (same_fault (refusal e))
+    → (or_refuse no_join found >>= (λ query. behind_query query c files)) ≡ Err (status.Script fault) → (fault ≡ Syntax 0) × (found ≡ None)
+formless c files fault None e = (sym (same_fault (refusal e)), refl)
 formless c files fault (Some q) e = absurd (other_behind q c files fault e)
 
 plan_formless : (c : Command) (files : List File) (text : List ℕ) (fault : ParseFault) → lookup files c.script ≡ Some text → length text ≤ 67108864 → IsOk (read_of text)
-    → plan_of c files ≡ Err (status.Script fault) → fault ≡ Syntax 0
+    → plan_of c files ≡ Err (status.Script fault) → (fault ≡ Syntax 0) × (early_script c.tables text ≡ None)
 unfolding plan_of
 plan_formless c files text fault found short ok e =
     let by_text = ap (λ (o : Option (List ℕ)). (or_refuse (status.NotFound file.Script) o >>= (λ z. join_read c.tables z)) >>= (λ query. behind_query query c files)) found in
@@ -79,23 +81,31 @@ plan_formless c files text fault found short ok e =
     formless c files fault (early_script c.tables text) (sym by_form ∙ (sym by_text ∙ e))
 
 plan_fault : (c : Command) (files : List File) (text : List ℕ) (fault : ParseFault) (r : Result Script ParseFault) → lookup files c.script ≡ Some text → length text ≤ 67108864 → read_of text ≡ r
-    → plan_of c files ≡ Err (status.Script fault) → RefusesScript text fault
+    → plan_of c files ≡ Err (status.Script fault) → RefusesScript c.tables text fault
 plan_fault c files text fault (Err f) found short e h =
     let same = same_fault (refusal (sym (plan_of-script_fault c files text f found short e) ∙ h)) in
     inl (fault-read_of text fault (e ∙ ap Err same))
 plan_fault c files text fault (Ok s) found short e h =
     let ok : IsOk (read_of text) = subst (λ (r : Result Script ParseFault). IsOk r) (sym e) refl in
-    inr (plan_formless c files text fault found short ok h, λ f is. no_both (sym e ∙ read_of-fault text f is))
+    let p = plan_formless c files text fault found short ok h in
+    inr (p.0, p.1, λ f is. no_both (sym e ∙ read_of-fault text f is))
   where
     no_both : {f : ParseFault} → ◌≡◌ {A = Result Script ParseFault} (Ok s) (Err f) → ⊥
     no_both x = cc
+
+-- a step before the output names no want of memory as a fault of the script, and one behind it no fault of it at all
+pub early_other : (told : Type 0) (s : Status) → IsEarly told s → s ≡ status.Script parser.Memory → ⊥
+early_other told s early e = let h : IsEarly told (status.Script parser.Memory) = subst (IsEarly told) e early in h refl
+
+pub late_other : (s : Status) (f : ParseFault) → IsLate s → s ≡ status.Script f → ⊥
+late_other s f late e = subst IsLate e late
 
 plan_refuses : (plan : Result Plan Status) (s : Status) → (plan >>= (λ p. Ok (text_of p))) ≡ Err s → plan ≡ Err s
 plan_refuses (Err t) s e = ap Err (refusal e)
 plan_refuses (Ok p) s e = absurd (no_answer e)
 
 pub script_fault_only : (words : List (List ℕ)) (files : List File) (text : List ℕ) (fault : ParseFault) (reads : FileOf → Type 0) (writes : Type 0) (s : Status)
-    → HasScript words files text → MayEnd reads writes (outcome words files) s → s ≡ status.Script fault → RefusesScript text fault
+    → (script : HasScript words files text) → MayEnd reads writes (outcome words files) s → s ≡ status.Script fault → RefusesScript script.asked.tables text fault
 script_fault_only words files text fault reads writes s has h e =
     let due : outcome words files ≡ Err (status.Script fault) = subst (MayEnd reads writes (outcome words files)) e h in
     let plan = plan_refuses (plan_of has.asked files) (status.Script fault) (sym (outcome-plan words has.asked files has.in_form) ∙ due) in

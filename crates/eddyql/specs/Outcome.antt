@@ -1,5 +1,5 @@
 -- What a run must answer: the outcome of words over files is the text of the answer, or the first refusal.
-use Rattle.std.specs.Prelude.{◌≡◌, ℕ, ◌+◌, nat_lt, List, [], ◌∷◌, length, take, Option, Some, None, Result, Ok, Err, IsOk, slice_get, if◌then◌else◌, ⊤}
+use Rattle.std.specs.Prelude.{◌≡◌, ◌<◌, ℕ, ◌+◌, nat_lt, List, [], ◌∷◌, length, take, Option, Some, None, Result, Ok, Err, IsOk, slice_get, if◌then◌else◌, ⊤}
 use Rattle.std.specs.Option.{option_map_or}
 use Rattle.sq_value.specs.Relation.{Relation}
 use Rattle.sq_value.specs.declared.table.Column.{Column}
@@ -83,7 +83,7 @@ plan_of c files = do
 -- whether a file is one of these tables, and all tables before it are there and in form
 abbrev pub ReachedTable : List File → List TableWord → FileOf → Type 0
 ReachedTable files tables file.Script = ⊥
-ReachedTable files tables (file.Table number) = IsOk (tables_read 0 files (take number tables))
+ReachedTable files tables (file.Table number) = (number < length tables) × IsOk (tables_read 0 files (take number tables))
 
 -- whether nothing refuses before a file of a command is loaded: the script is loaded first, then the tables in order
 abbrev pub Reached : Command → List File → FileOf → Type 0

@@ -1,5 +1,6 @@
 -- When a step may refuse, beside its definition.
-use Rattle.std.specs.Prelude.{◌≡◌, Result, Err, ⊤}
+use Rattle.std.specs.Prelude.{◌≡◌, ◌≢◌, Result, Err, ⊤}
+use Rattle.sq_parse.specs.declared.parser.ParseFault.TheVariants as parser
 use Rattle.eddyql.specs.declared.status.FileOf.{FileOf}
 use Rattle.eddyql.specs.declared.status.Status.{Status}
 use Rattle.eddyql.specs.declared.status.Status.TheVariants.{Done, Usage, Script, Bind, BadTable, NotFound, Read, Write, Memory}
@@ -21,15 +22,15 @@ MayRefuse reads expected (NotFound file) = expected ≡ Err (NotFound file)
 abbrev pub never : FileOf → Type 0
 never file = ⊥
 
--- what a step before the output may answer in any folder: it isn't done, the words are in form, nothing is written, and
--- a file isn't there only where the folder tells what it holds
+-- what a step before the output may answer in any folder: it isn't done, the words are in form, nothing is written, a
+-- file isn't there only where the folder tells what it holds, and want of memory is no fault of the script
 abbrev pub IsEarly : Type 0 → Status → Type 0
 IsEarly told Memory = ⊤
 IsEarly told (Read file) = ⊤
 IsEarly told Done = ⊥
 IsEarly told Write = ⊥
 IsEarly told Usage = ⊥
-IsEarly told (Script fault) = ⊤
+IsEarly told (Script fault) = fault ≢ parser.Memory
 IsEarly told (Bind statement fault) = ⊤
 IsEarly told (BadTable table fault) = ⊤
 IsEarly told (NotFound file) = told

@@ -1,5 +1,5 @@
--- The text of a script: it is read by the whole grammar, before anything else is asked of it.
-use Rattle.std.specs.Prelude.{◌≡◌, ◌⊎◌, ◌≤◌, ℕ, List, length, Some, Result, Ok, Err, if◌then◌else◌}
+-- The text of a script: one that isn't too long is read by the whole grammar.
+use Rattle.std.specs.Prelude.{◌≡◌, ◌⊎◌, ◌≤◌, ℕ, List, length, Some, None, Result, Ok, Err, if◌then◌else◌}
 use Rattle.std.specs.Str.{is_utf8}
 use Rattle.std.specs.Str.Lossy.{utf8_valid_len}
 use Rattle.sq_parse.specs.declared.parser.ParseFault.{ParseFault}
@@ -28,10 +28,11 @@ abbrev pub refusal_of : ParseFault → Status
 refusal_of Memory = status.Memory
 refusal_of fault = status.Script fault
 
--- a text of at most 67,108,864 bytes is refused so: by its fault, or at 0 where it is a script, which isn't in the early
--- form
-abbrev pub RefusesScript : List ℕ → ParseFault → Type 0
-RefusesScript text fault = IsFault text fault ⊎ ((fault ≡ Syntax 0) × ((other : ParseFault) → IsFault text other → ⊥))
+-- a text of at most 67,108,864 bytes is refused so: by its fault, or at 0 where it has none, and isn't in the early form
+-- over these tables
+abbrev pub RefusesScript : List TableWord → List ℕ → ParseFault → Type 0
+RefusesScript tables text fault =
+    IsFault text fault ⊎ ((fault ≡ Syntax 0) × (early_script tables text ≡ None) × ((other : ParseFault) → IsFault text other → ⊥))
 
 -- the words are in form, and the files hold this text of their script, which isn't too long
 pub record HasScript (words : List (List ℕ)) (files : List File) (text : List ℕ) : Type 0 where

@@ -29,14 +29,15 @@ use sq_parse::parse;
 use sq_value::Tables;
 use std::alloc::Global;
 
-// The refusal of a script that is none, or isn't in the early form.
+// The refusal of a text that is too long, or of a script that isn't in the early form.
 const NO_JOIN: Status = Status::Script {
     fault: ParseFault::Syntax { at: 0 },
 };
 
 // The refusal of a script by a fault.
 fn refusal_of(fault: ParseFault) -> Status
-    ensures { result ≡ text_spec.refusal_of fault }
+    ensures status { result ≡ text_spec.refusal_of fault }
+    ensures early { IsEarly ⊥ result }
 {
     match fault {
         ParseFault::Memory => Status::Memory,

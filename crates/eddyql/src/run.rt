@@ -6,6 +6,7 @@ ghost use Rattle.outside.specs.Files.{File};
 ghost use Rattle.outside.specs.Faults.{NeverFalls, Rose};
 ghost use Rattle.outside.specs.Told.{Adds, AddsFront};
 ghost use Rattle.sq_parse.specs.declared.parser.ParseFault.{ParseFault};
+ghost use Rattle.sq_parse.specs.declared.parser.ParseFault.TheVariants as parser;
 ghost use Rattle.bag_meaning.specs.Bag.{bag};
 ghost use Rattle.eddyql.specs.Words.{command};
 ghost use Rattle.sq_parse.specs.Fault.{IsFault};
@@ -96,7 +97,8 @@ pub fn run<F: Folder, O: Sink, N: Sink>(
         → HasScript (map string_bytes words.now) files text → IsFault text fault → ¬ (Rose (F.faults folder.old) (F.faults folder.new))
         → (result ≡ Status.Script fault) ⊎ (result ≡ Status.Memory) }
     ensures syntax_only { (files : List File) → F.holds folder.old ≡ Some files → (text : List ℕ) (fault : ParseFault)
-        → HasScript (map string_bytes words.now) files text → result ≡ Status.Script fault → RefusesScript text fault }
+        → (script : HasScript (map string_bytes words.now) files text) → result ≡ Status.Script fault → RefusesScript script.asked.tables text fault }
+    ensures no_memory { result ≡ Status.Script parser.Memory → ⊥ }
     ensures read { (file : FileOf) → result ≡ Status.Read file → Rose (F.faults folder.old) (F.faults folder.new) }
     ensures write { result ≡ Status.Write → Rose (O.faults out.old) (O.faults out.new) }
     ensures not_found { (file : FileOf) → result ≡ Status.NotFound file → IsSome (F.holds folder.old) }

@@ -37,7 +37,7 @@ returns-in_err-push_table-clause-refused g c =
     MayRefuse-next _ files ws c.loop-index.index (table_of_word c.as_str.result.now) c.loop-index.tables c.in_err-push_table.field-0.0 within
     (c.loop-index.invariant.told files told)
     (MayRefuse-same _ _ _ _ c.in_err-push_table.field-0.0 (ap (table_read c.loop-index.index files) (sym word))
-    (reads_weaker _ _ (λ (f : FileOf). f ≡ file.Table c.loop-index.index) (ReachedTable files ws) rises (next_reached files ws c.loop-index.index c.loop-index.tables (c.loop-index.invariant.told files told)))
+    (reads_weaker _ _ (λ (f : FileOf). f ≡ file.Table c.loop-index.index) (ReachedTable files ws) rises (next_reached files ws c.loop-index.index c.loop-index.tables within (c.loop-index.invariant.told files told)))
     (c.in_err-push_table.ensures.refused files (c.loop-index.invariant.keeps ∙ told))))
 
 pub loop-index-preserved : goal.loop-index-preserved

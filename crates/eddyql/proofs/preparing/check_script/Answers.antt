@@ -7,5 +7,5 @@ returns-in-Ok-clause-ok c =
 
 pub returns-in-Err-clause-refused : goal.returns-in-Err-clause-refused
 returns-in-Err-clause-refused c =
-    MayRefuse-parse c.args.text.now c.parse.result c.in-Err.fault c.refusal_of.result c.in-Err.is c.refusal_of.ensures
+    MayRefuse-parse c.args.text.now c.parse.result c.in-Err.fault c.refusal_of.result c.in-Err.is c.refusal_of.ensures.status
     (Gives-parse c.args.text.now c.parse.result c.parse.ensures.not_utf8 c.parse.ensures.stops)

@@ -8,7 +8,8 @@ use Rattle.eddyql.specs.Outcome.{outcome, text_of, ReachedBy}
 use Rattle.eddyql.specs.Run.{status_of, text_due}
 use Rattle.eddyql.specs.declared.status.Status.{Status}
 use Rattle.eddyql.proofs.RunLemmas.{run_of, no_command-false, no_command-none, outcome-usage, outcome_of_run, end_of_refused, MayEnd-late, ends_by_outcome, not_read, no_script, ends_by_script_fault}
-use Rattle.eddyql.proofs.ScriptFaults.{script_fault_only}
+use Rattle.sq_parse.specs.declared.parser.ParseFault.TheVariants as parser
+use Rattle.eddyql.proofs.ScriptFaults.{script_fault_only, early_other, late_other}
 use Rattle.eddyql.proofs.run.run.Goals as goal
 
 pub returns-then-not-is_command-clause-causes : goal.returns-then-not-is_command-clause-causes
@@ -129,3 +130,9 @@ returns-in-Err-clause-syntax_only g c = λ files told text fault has is.
     script_fault_only (map string_bytes c.args.words.now) files text fault
     (λ f. Rose (g.F.Folder.faults c.args.folder.now) (g.F.Folder.faults c.prepare.new.folder) × ReachedBy (map string_bytes c.args.words.now) files f)
     (Rose (g.O.Sink.faults c.args.out.now) (g.O.Sink.faults c.args.out.now)) c.in-Err.refusal has (returns-in-Err-clause-causes g c files told) is
+
+pub returns-in-Ok-clause-no_memory : goal.returns-in-Ok-clause-no_memory
+returns-in-Ok-clause-no_memory g c = λ is. late_other c.answer.result parser.Memory c.answer.ensures.late is
+
+pub returns-in-Err-clause-no_memory : goal.returns-in-Err-clause-no_memory
+returns-in-Err-clause-no_memory g c = λ is. early_other _ c.in-Err.refusal c.in-Err.ensures.early is
