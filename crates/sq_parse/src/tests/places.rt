@@ -3,7 +3,7 @@ use crate::tests::{answer, repeated};
 use std::alloc::Global;
 use std::test::Fail;
 
-const ROWS: [(&str, u8, u32); 108] = [
+const ROWS: [(&str, u8, u32); 146] = [
     ("x FROM n", 2, 0),
     ("SELECT x n m", 2, 11),
     ("SELECT x FROM n x = 1", 2, 18),
@@ -116,6 +116,44 @@ const ROWS: [(&str, u8, u32); 108] = [
     ("-- nothing", 2, 10),
     ("SELECT x FROM n WHERE -- x = 1", 2, 30),
     ("\u{feff}SELECT x FROM n", 2, 0),
+    ("SELECT x FROM n WHERE x NULL", 2, 24),
+    ("SELECT x FROM n WHERE (x = 1) TRUE", 2, 30),
+    ("SELECT x FROM n WHERE x = 1 y = 2", 2, 28),
+    ("SELECT x FROM n WHERE 2 (1)", 2, 24),
+    ("SELECT x FROM n WHERE x NOT (1)", 2, 28),
+    ("SELECT x FROM n ORDER BY x NULLS, x", 2, 32),
+    ("SELECT x FROM n INNER INNER JOIN m ON x = 1", 2, 22),
+    ("SELECT x FROM n ORDER BY x ASC ASC", 2, 31),
+    ("SELECT x FROM n ORDER BY x NULLS FIRST FIRST", 2, 39),
+    ("SELECT x FROM n ORDER BY x NULLS LAST LAST", 2, 38),
+    ("SELECT x FROM n WHERE x BETWEEN 1 AND AND 2", 2, 38),
+    ("SELECT x FROM n WHERE x = NULL NULL", 2, 31),
+    ("SELECT x FROM n WHERE (x = 1) IS TRUE TRUE", 2, 38),
+    ("SELECT x FROM n WHERE (x = 1) IS FALSE FALSE", 2, 39),
+    ("SELECT x FROM n WHERE (x = 1) IS UNKNOWN UNKNOWN", 2, 41),
+    ("SELECT x FROM n SELECT y FROM m", 2, 16),
+    ("SELECT x FROM n ALL", 2, 16),
+    ("FROM n SELECT x", 2, 0),
+    ("SELECT AS x FROM n", 2, 7),
+    ("SELECT x FROM CROSS JOIN n", 2, 14),
+    ("SELECT x FROM INNER JOIN n ON x = 1", 2, 14),
+    ("SELECT x FROM JOIN n ON x = 1", 2, 14),
+    ("SELECT x FROM n BY ORDER x", 2, 16),
+    ("SELECT x FROM n ORDER BY ASC x", 2, 25),
+    ("SELECT x FROM n ORDER BY DESC x", 2, 25),
+    ("SELECT x FROM n NULLS FIRST", 2, 22),
+    ("SELECT x FROM n WHERE AND x = 1", 2, 22),
+    ("SELECT x FROM n WHERE OR x = 1", 2, 22),
+    ("SELECT x FROM n WHERE BETWEEN 1 AND 2", 2, 22),
+    ("SELECT x FROM n WHERE IN (1)", 2, 22),
+    ("SELECT x FROM n WHERE IS NULL", 2, 22),
+    ("SELECT x FROM n WHERE x = NOT NULL", 2, 26),
+    ("SELECT NULL FROM n", 2, 7),
+    ("SELECT x FROM n WHERE FALSE", 2, 22),
+    ("SELECT x FROM n WHERE x = LAST (1)", 2, 31),
+    ("SELECT x FROM n WHERE (x = 1) IS", 2, 32),
+    ("SELECT x FROM n WHERE x IS", 2, 26),
+    ("SELECT x FROM n WHERE x IS NOT", 2, 30),
 ];
 
 const BIG_SPENDERS: &str =
