@@ -1,3 +1,4 @@
+//! Integers written in decimal digits.
 ghost use Rattle.std.specs.Prelude.{◌≡◌};
 ghost use Rattle.std.specs.Str.Parse.{without_leading_sign};
 ghost use Rattle.sq_value.specs.Numeral.{number_read};

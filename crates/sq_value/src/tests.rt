@@ -154,17 +154,17 @@ fn keys_stand_for_values(rt: HostRuntime) -> Result<(), Fail> {
     let alloc = rt.alloc();
     let name = Value::Text(SqText::of(alloc, "né")?);
     assert_eq!(rt; key_of(&Value::Null), None);
-    assert_eq!(rt; key_of(&Value::Int(-5)), Some(Key::Int(-5)));
+    assert_eq!(rt; key_of(&Value::Int(-5)), Some(Key::Number(-5_000_000)));
     assert_eq!(rt; key_of(&name), Some(Key::Text("né")));
     let cases = [
-        (Key::Int(2), Key::Int(10), Less),
-        (Key::Int(-1), Key::Int(0), Less),
-        (Key::Int(7), Key::Int(7), Equal),
+        (Key::Number(2), Key::Number(10), Less),
+        (Key::Number(-1), Key::Number(0), Less),
+        (Key::Number(7), Key::Number(7), Equal),
         (Key::Text("b"), Key::Text("aa"), Greater),
         (Key::Text("a"), Key::Text("aa"), Less),
         (Key::Text("é"), Key::Text("z"), Greater),
         (Key::Text("né"), Key::Text("né"), Equal),
-        (Key::Int(9), Key::Text("1"), Less),
+        (Key::Number(9), Key::Text("1"), Less),
     ];
     for (x, y, order) in cases {
         assert_eq!(rt; ordered(&x, &y), order, "of {x:?} and {y:?}");
@@ -176,7 +176,7 @@ fn keys_stand_for_values(rt: HostRuntime) -> Result<(), Fail> {
         hash_of(&key_of(&name)),
         hash_of(&Some(Key::Text(copy.as_str())))
     );
-    crosses_threads(&Key::Int(1));
+    crosses_threads(&Key::Number(1));
     Ok(())
 }
 

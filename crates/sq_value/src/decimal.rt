@@ -1,0 +1,45 @@
+//! Decimal numbers, and the millionths in which all numbers are compared.
+ghost use Rattle.std.specs.Prelude.{◌≡◌, ◌*◌, ◌^◌, ◌≤◌, ◌*ℤ◌, pos, unsigned_abs};
+ghost use Rattle.sq_value.specs.Rank as spec;
+
+/// A decimal number: `units` over 10 to the power of `scale`. The scale is from 0 to 6; a greater
+/// one counts as 6.
+#[derive(Clone, Copy, Debug, PartialEq, Eq)]
+pub struct Dec {
+    pub units: i64,
+    pub scale: u8,
+}
+
+/// Why a text isn't a decimal number of a scale.
+#[derive(Clone, Copy, Debug, PartialEq, Eq)]
+pub enum DecFault {
+    /// The text isn't an optional sign, one or more ASCII digits and, where the scale isn't 0,
+    /// maybe a point and one to as many digits as the scale says.
+    NotADecimal,
+    /// It is, and the number of units isn't within the 64 bits of an `i64`.
+    OutOfRange,
+}
+
+// How many millionths one unit of a scale is.
+fn millionths_in(scale: u8) -> u32
+    ensures is { result ≡ spec.millionths_in scale }
+    ensures small { result ≤ 1000000 }
+{
+    match scale {
+        0 => 1_000_000,
+        1 => 100_000,
+        2 => 10_000,
+        3 => 1_000,
+        4 => 100,
+        5 => 10,
+        _ => 1,
+    }
+}
+
+/// The number of so many units of a scale, in millionths.
+pub fn millionths(units: i64, scale: u8) -> i128
+    ensures is { result ≡ spec.millionths units scale }
+    ensures small { unsigned_abs result ≤ 2 ^ 63 * 1000000 }
+{
+    i128::from(units) * i128::from(millionths_in(scale))
+}
