@@ -1,3 +1,4 @@
+//! Why reading stopped.
 use sq_value::Memory;
 use std::alloc::AllocError;
 

@@ -1,3 +1,4 @@
+//! Texts with their tokens, and scripts with their answers, worked out by hand.
 ghost use Rattle.std.specs.Prelude.{◌<◌, length};
 
 use crate::parser::{ParseFault, parse};

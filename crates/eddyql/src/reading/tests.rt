@@ -1,3 +1,4 @@
+//! Tables' files and what is read of them, worked out by hand.
 use super::read_table;
 use sq_value::{ColType, Table, Value};
 use std::alloc::{AllocError, Global};
