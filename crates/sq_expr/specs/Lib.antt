@@ -4,3 +4,4 @@ pub mod Plain
 pub mod Reading
 pub mod Seen
 pub mod Samples
+pub mod Reach
