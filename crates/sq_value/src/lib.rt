@@ -5,6 +5,8 @@
 #![tactic(auto)]
 
 mod decimal;
+mod decimal_reading;
+mod decimal_writing;
 mod integer;
 mod key;
 mod logic;
@@ -19,7 +21,9 @@ mod tests;
 mod text;
 mod value;
 
-pub use decimal::{Dec, DecFault, millionths};
+pub use decimal::{Dec, DecFault, millionths, number_law};
+pub use decimal_reading::read_decimal;
+pub use decimal_writing::push_decimal;
 pub use integer::{IntFault, read_int};
 pub use key::{Key, key_laws, key_of, key_order};
 pub use logic::{and, not, or};
