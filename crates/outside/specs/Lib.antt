@@ -3,3 +3,5 @@ pub mod Faults
 pub mod Told
 pub mod Sure
 pub mod Chosen
+pub mod Streams
+pub mod Real

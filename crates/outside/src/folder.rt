@@ -1,4 +1,4 @@
-ghost use Rattle.std.specs.Prelude.{◌≡◌, ℕ, List, Option, ◌≤◌, vec_len, IfOk};
+ghost use Rattle.std.specs.Prelude.{◌≡◌, ℕ, List, Option, ◌<◌, ◌≤◌, ◌^◌, vec_len, IfOk, OnOk};
 ghost use Rattle.outside.specs.Files.{File, Gives, Lacks};
 ghost use Rattle.outside.specs.Faults.{NeverFalls, Rose};
 
@@ -8,7 +8,8 @@ use std::alloc::Global;
 /// Where files are loaded from.
 ///
 /// It tells what it holds, where that is known, and counts its faults in a number that begins at 0,
-/// never falls and stays at 18,446,744,073,709,551,615.
+/// never falls, and stays at 18,446,744,073,709,551,615, its greatest. A load that gives bytes or
+/// finds no file leaves the count as it was.
 pub trait Folder {
     ghost holds: { Self → Option (List File) };
 
@@ -26,5 +27,9 @@ pub trait Folder {
         ensures within { IfOk result (λ bytes. vec_len bytes ≤ limit) }
         ensures gives { IfOk result (λ bytes. Gives (holds self.old) name.now limit bytes.items) }
         ensures absent { result ≡ Err LoadFault.Absent → Lacks (holds self.old) name.now }
-        ensures failed { result ≡ Err LoadFault.Failed → Rose (faults self.old) (faults self.new) };
+        ensures failed { result ≡ Err LoadFault.Failed → Rose (faults self.old) (faults self.new) }
+        ensures kept { OnOk result (faults self.new ≡ faults self.old) }
+        ensures absent_kept { result ≡ Err LoadFault.Absent → faults self.new ≡ faults self.old };
+
+    ghost bounded: { (folder : Self) → faults folder < 2 ^ 64 };
 }

@@ -5,15 +5,20 @@
 //! faults. An answer `Failed` comes only where the count rose.
 #![tactic(auto)]
 
+mod counted;
 mod fault;
 mod folder;
 mod memory_folder;
 mod memory_sink;
 mod next;
+mod putting;
+mod reading;
 mod real_folder;
 mod real_sink;
 mod sink;
 mod stored;
+#[cfg(test)]
+mod stream_tests;
 mod sure_folder;
 mod sure_sink;
 #[cfg(test)]

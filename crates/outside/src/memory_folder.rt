@@ -1,7 +1,7 @@
 ghost use Rattle.std.specs.Prelude.{◌≡◌, ◌∷◌, ◌≢◌, ◌≤◌, ◌+◌, ◌==◌, ◌↔◌, Some, true, vec_len, IfOk, OnOk, OnErr};
 ghost use Rattle.std.specs.List.{list_any};
 ghost use Rattle.outside.specs.Chosen.{no_files, load_fails, after_load};
-ghost use Rattle.outside.specs.Faults.{NeverFalls, Rose};
+ghost use Rattle.outside.specs.Faults.{NeverFalls, Rose, shown, shown-bounded};
 ghost use Rattle.outside.specs.Files.{Gives, Lacks, file_of};
 
 use crate::fault::LoadFault;
@@ -101,7 +101,9 @@ impl MemoryFolder {
 impl Folder for MemoryFolder {
     ghost holds = { λ s. Some s.files };
 
-    ghost faults = { λ s. s.faults };
+    ghost faults = { λ s. shown s.faults };
+
+    ghost bounded = { λ s. shown-bounded s.faults };
 
     fn load(&mut self, alloc: Global, name: &str, limit: usize) -> Result<Vec<u8>, LoadFault>
         ensures keeps { Some self.new.files ≡ Some self.old.files }
@@ -110,6 +112,8 @@ impl Folder for MemoryFolder {
         ensures gives { IfOk result (λ bytes. Gives (Some self.old.files) name.now limit bytes.items) }
         ensures absent { result ≡ Err LoadFault.Absent → Lacks (Some self.old.files) name.now }
         ensures failed { result ≡ Err LoadFault.Failed → Rose self.old.faults self.new.faults }
+        ensures kept { OnOk result (self.new.faults ≡ self.old.faults) }
+        ensures absent_kept { result ≡ Err LoadFault.Absent → self.new.faults ≡ self.old.faults }
         ensures after { self.new ≡ after_load self.old }
         ensures chosen { result ≡ Err LoadFault.Failed ↔ load_fails self.old ≡ true }
         ensures lacking { load_fails self.old ≢ true → Lacks (Some self.old.files) name.now → result ≡ Err LoadFault.Absent }

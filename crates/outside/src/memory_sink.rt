@@ -1,6 +1,6 @@
 ghost use Rattle.std.specs.Prelude.{◌≡◌, ◌∷◌, ◌+◌, ◌==◌, Some, not, is_ok, find, option_map, IfOk, OnOk, OnErr};
 ghost use Rattle.outside.specs.Chosen.{failing_put, empty_sink, put_fails, after_put};
-ghost use Rattle.outside.specs.Faults.{NeverFalls, Rose};
+ghost use Rattle.outside.specs.Faults.{NeverFalls, Rose, shown, shown-bounded};
 ghost use Rattle.outside.specs.Told.{Adds, AddsFront};
 
 use crate::fault::PutFault;
@@ -131,13 +131,16 @@ impl MemorySink {
 impl Sink for MemorySink {
     ghost written = { λ s. Some s.written };
 
-    ghost faults = { λ s. s.faults };
+    ghost faults = { λ s. shown s.faults };
+
+    ghost bounded = { λ s. shown-bounded s.faults };
 
     fn put(&mut self, piece: &[u8]) -> Result<(), PutFault>
         ensures counts { NeverFalls self.old.faults self.new.faults }
         ensures ok { OnOk result (Adds (Some self.old.written) (Some self.new.written) piece.now) }
         ensures failed { OnErr result (Rose self.old.faults self.new.faults) }
         ensures front { OnErr result (AddsFront (Some self.old.written) (Some self.new.written) piece.now) }
+        ensures kept { OnOk result (self.new.faults ≡ self.old.faults) }
         ensures after { self.new ≡ after_put self.old piece.now }
         ensures fails { is_ok result ≡ not (put_fails self.old piece.now) }
     {

@@ -1,12 +1,12 @@
-ghost use Rattle.std.specs.Prelude.{◌≡◌, ◌≢◌, ◌≤◌, vec_len, IfOk, is_err, None, if◌then◌else◌};
-ghost use Rattle.outside.specs.Faults.{NeverFalls, Rose, raised};
+ghost use Rattle.std.specs.Prelude.{◌≡◌, ◌≢◌, ◌≤◌, vec_len, IfOk, OnOk, is_err, None, if◌then◌else◌};
+ghost use Rattle.outside.specs.Faults.{NeverFalls, Rose, raised, shown, shown-bounded};
 ghost use Rattle.outside.specs.Files.{Gives};
 
 use crate::fault::LoadFault;
 use crate::folder::Folder;
+use crate::reading::load_prefix;
 use std::alloc::Global;
 use std::fs::File;
-use std::io::{ErrorKind, Read};
 use std::marker::Model;
 use std::rt::Files;
 
@@ -42,50 +42,26 @@ impl<'r, R: Files> RealFolder<'r, R> {
     }
 }
 
-/// The first bytes of a file of the system, at most `limit` of them. They are read in pieces that
-/// grow to 128 KiB.
-///
-/// # Errors
-/// - `Failed`: the file can't be opened, or reading failed.
-/// - `Memory`: there is no memory for the bytes.
-fn read_file<R: Files>(
-    files: &R,
-    alloc: Global,
-    path: &str,
-    limit: usize,
-) -> Result<Vec<u8>, LoadFault>
-    ensures within { IfOk result (λ bytes. vec_len bytes ≤ limit) }
-    ensures never_absent { result ≢ Err LoadFault.Absent }
-{
-    let Ok(file) = File::open(files, path) else {
-        return Err(LoadFault::Failed);
-    };
-    let mut bytes = Vec::new(alloc);
-    match file.take(limit as u64).read_to_end(&mut bytes) {
-        Ok(_) => {
-            bytes.truncate(limit);
-            Ok(bytes)
-        }
-        Err(error) if error.kind() == ErrorKind::OutOfMemory => Err(LoadFault::Memory),
-        Err(_) => Err(LoadFault::Failed),
-    }
-}
-
 impl<'r, R: Files> Folder for RealFolder<'r, R> {
     ghost holds = { λ _. None };
 
-    ghost faults = { λ s. s };
+    ghost faults = { λ s. shown s };
 
+    ghost bounded = { λ s. shown-bounded s };
+
+    /// Opens the file and reads its first bytes. A file that can't be opened is `Failed`.
     fn load(&mut self, alloc: Global, name: &str, limit: usize) -> Result<Vec<u8>, LoadFault>
-        ensures counts { NeverFalls self.old self.new }
+        ensures counts { NeverFalls (shown self.old) (shown self.new) }
         ensures within { IfOk result (λ bytes. vec_len bytes ≤ limit) }
         ensures gives { IfOk result (λ bytes. Gives None name.now limit bytes.items) }
-        ensures failed { result ≡ Err LoadFault.Failed → Rose self.old self.new }
+        ensures failed { result ≡ Err LoadFault.Failed → Rose (shown self.old) (shown self.new) }
         ensures never_absent { result ≢ Err LoadFault.Absent }
         ensures exact { self.new ≡ (if is_err result then raised self.old else self.old) }
+        ensures kept { OnOk result (shown self.new ≡ shown self.old) }
+        ensures absent_kept { result ≡ Err LoadFault.Absent → shown self.new ≡ shown self.old }
     {
-        let loaded = read_file(self.files, alloc, name, limit);
-        if loaded.is_err() {
+        let loaded = load_prefix(File::open(self.files, name), alloc, limit, &mut self.faults);
+        if matches!(&loaded, Err(LoadFault::Memory)) {
             self.faults = self.faults.saturating_add(1);
         }
         loaded

@@ -1,5 +1,6 @@
 ghost use Rattle.std.specs.Prelude.{◌≡◌, [], ◌∷◌, ◌≢◌, ◌≤◌, ◌↔◌, None, Some, vec_len, IfOk, OnOk, OnErr};
 ghost use Rattle.outside.specs.Files.{Gives, file_of, lookup};
+ghost use Rattle.outside.specs.Faults.{shown-bounded};
 
 use crate::fault::LoadFault;
 use crate::folder::Folder;
@@ -52,6 +53,8 @@ impl Folder for SureFolder {
     ghost holds = { λ s. Some s };
 
     ghost faults = { λ _. 0 };
+
+    ghost bounded = { λ _. shown-bounded 0 };
 
     fn load(&mut self, alloc: Global, name: &str, limit: usize) -> Result<Vec<u8>, LoadFault>
         ensures keeps { self.new ≡ self.old }

@@ -1,6 +1,7 @@
 ghost use Rattle.std.specs.Prelude.{◌≡◌, OnOk, IfOk, IsOk};
 ghost use Rattle.outside.specs.Told.{Adds};
 ghost use Rattle.outside.specs.Sure.{empty_sink, after_piece, told};
+ghost use Rattle.outside.specs.Faults.{shown-bounded};
 
 use crate::fault::PutFault;
 use crate::sink::Sink;
@@ -55,6 +56,8 @@ impl Sink for SureSink {
     ghost written = { told };
 
     ghost faults = { λ _. 0 };
+
+    ghost bounded = { λ _. shown-bounded 0 };
 
     fn put(&mut self, piece: &[u8]) -> Result<(), PutFault>
         ensures ok { OnOk result (Adds (told self.old) (told self.new) piece.now) }

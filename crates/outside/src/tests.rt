@@ -1,12 +1,7 @@
 //! The answers of single calls, worked out by hand.
-use crate::{
-    Folder, LoadFault, MemoryFolder, MemorySink, PutFault, RealFolder, RealSink, Sink, SureFolder,
-    SureSink,
-};
+use crate::{Folder, LoadFault, MemoryFolder, MemorySink, PutFault, Sink, SureFolder, SureSink};
 use std::alloc::Global;
-use std::io::{ErrorKind, Write};
 use std::test::Fail;
-use std::{fs, io};
 
 /// A load through the trait alone.
 fn load_from<F: Folder>(
@@ -89,71 +84,5 @@ fn faults_say_what_failed(rt: HostRuntime) -> Result<(), Fail> {
         format!(in rt.alloc(); "{}", PutFault::Failed)?.as_str(),
         "writing failed"
     );
-    Ok(())
-}
-
-#[test]
-fn the_file_system_is_a_folder(rt: HostRuntime) -> Result<(), Fail> {
-    let name = "outside_test_file";
-    fs::write(&rt, name, "abc")?;
-    let mut folder = RealFolder::new(&rt);
-    let front = load_from(&mut folder, rt.alloc(), name, 2);
-    let whole = load_from(&mut folder, rt.alloc(), name, 4);
-    fs::remove_file(&rt, name)?;
-    assert_eq!(rt; front?.as_slice(), b"ab".as_slice());
-    assert_eq!(rt; whole?.as_slice(), b"abc".as_slice());
-    assert_eq!(rt; folder.faults(), 0);
-    let failed = load_from(&mut folder, rt.alloc(), name, 4);
-    assert_eq!(rt; failed.err(), Some(LoadFault::Failed));
-    assert_eq!(rt; folder.faults(), 1);
-    Ok(())
-}
-
-/// A stream that takes one byte a call, as many as are left, and whose flush fails where it is told.
-#[derive(Drop)]
-struct Trickle {
-    left: usize,
-    broken: bool,
-}
-
-impl Write for Trickle {
-    fn write(&mut self, piece: &[u8]) -> io::Result<usize> {
-        let taken = self.left.min(piece.len()).min(1);
-        self.left -= taken;
-        Ok(taken)
-    }
-
-    fn flush(&mut self) -> io::Result<()> {
-        if self.broken {
-            return Err(io::Error::from(ErrorKind::Other));
-        }
-        Ok(())
-    }
-}
-
-#[test]
-fn a_stream_is_a_sink(rt: HostRuntime) -> Result<(), Fail> {
-    let mut text = Vec::new(rt.alloc());
-    let mut sink = RealSink::new(&mut text);
-    assert_eq!(rt; put_into(&mut sink, b"ab"), Ok(()));
-    assert_eq!(rt; put_into(&mut sink, b"c"), Ok(()));
-    assert_eq!(rt; sink.faults(), 0);
-    assert_eq!(rt; text.as_slice(), b"abc".as_slice());
-
-    // The third byte is taken, and the fourth is not.
-    let mut sink = RealSink::new(Trickle {
-        left: 3,
-        broken: false,
-    });
-    assert_eq!(rt; put_into(&mut sink, b"ab"), Ok(()));
-    assert_eq!(rt; put_into(&mut sink, b"cd"), Err(PutFault::Failed));
-    assert_eq!(rt; sink.faults(), 1);
-
-    let mut sink = RealSink::new(Trickle {
-        left: 3,
-        broken: true,
-    });
-    assert_eq!(rt; put_into(&mut sink, b"ab"), Err(PutFault::Failed));
-    assert_eq!(rt; sink.faults(), 1);
     Ok(())
 }

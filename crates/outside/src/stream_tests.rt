@@ -1,0 +1,213 @@
+//! The real folder and sink over files, and over streams that fail where they are told. What is
+//! expected was worked out by hand.
+use crate::reading::load_prefix;
+use crate::{Folder, LoadFault, PutFault, RealFolder, RealSink, Sink};
+use std::alloc::{AllocError, Global};
+use std::io::{ErrorKind, Read, Write};
+use std::test::Fail;
+use std::{fs, io};
+
+/// A text of that many bytes, no two neighbouring pieces of which are the same.
+fn text_of(alloc: Global, count: usize) -> Result<Vec<u8>, AllocError> {
+    let mut text = Vec::new(alloc);
+    for number in 0..count {
+        text.push((number % 251) as u8)?;
+    }
+    Ok(text)
+}
+
+/// A put through the trait alone.
+fn put_into<S: Sink>(sink: &mut S, piece: &[u8]) -> Result<(), PutFault> {
+    sink.put(piece)
+}
+
+/// A load through the trait alone.
+fn load_from<F: Folder>(
+    folder: &mut F,
+    alloc: Global,
+    name: &str,
+    limit: usize,
+) -> Result<Vec<u8>, LoadFault> {
+    folder.load(alloc, name, limit)
+}
+
+#[test]
+fn files_are_loaded_by_their_whole_names_up_to_the_limit(rt: HostRuntime) -> Result<(), Fail> {
+    let text = text_of(rt.alloc(), 300_000)?;
+    let name = " outside_test_file ";
+    fs::write(&rt, name, text.as_slice())?;
+    fs::write(&rt, "outside_test_file", "trimmed")?;
+    let mut folder = RealFolder::new(&rt);
+    for limit in [0, 1, 4_096, 4_097, 131_072, 200_000, 300_000, 300_001] {
+        let bytes = load_from(&mut folder, rt.alloc(), name, limit)?;
+        let count = limit.min(text.len());
+        assert_eq!(rt; bytes.as_slice(), &text[..count], "limit {limit}");
+    }
+    fs::remove_file(&rt, "outside_test_file")?;
+    fs::remove_file(&rt, name)?;
+    assert_eq!(rt; folder.faults(), 0);
+    let failed = load_from(&mut folder, rt.alloc(), name, 4);
+    assert_eq!(rt; failed.err(), Some(LoadFault::Failed));
+    assert_eq!(rt; folder.faults(), 1);
+    // A folder can be opened, and not read.
+    let failed = load_from(&mut folder, rt.alloc(), ".", 4);
+    assert_eq!(rt; failed.err(), Some(LoadFault::Failed));
+    assert_eq!(rt; folder.faults(), 2);
+    Ok(())
+}
+
+/// A stream that gives at most `most` bytes a call, and fails at one call, which counts from 1.
+#[derive(Drop)]
+struct Giver<'a> {
+    text: &'a [u8],
+    most: usize,
+    fails_at: u64,
+    kind: ErrorKind,
+    calls: u64,
+}
+
+impl<'a> Read for Giver<'a> {
+    fn read(&mut self, piece: &mut [u8]) -> io::Result<usize> {
+        self.calls = self.calls.saturating_add(1);
+        if self.calls == self.fails_at {
+            return Err(io::Error::from(self.kind));
+        }
+        let count = self.most.min(piece.len());
+        (&mut self.text).read(&mut piece[..count])
+    }
+}
+
+/// Loads from such a stream, and answers the bytes that came, the faults counted, the calls made and
+/// the bytes left.
+fn load_given(
+    alloc: Global,
+    (most, fails_at, limit): (usize, u64, usize),
+    kind: ErrorKind,
+) -> (Result<Vec<u8>, LoadFault>, u64, u64, usize) {
+    let mut giver = Giver {
+        text: b"abcde",
+        most,
+        fails_at,
+        kind,
+        calls: 0,
+    };
+    let mut faults = 7;
+    let loaded = load_prefix(Ok(&mut giver), alloc, limit, &mut faults);
+    (loaded, faults, giver.calls, giver.text.len())
+}
+
+#[test]
+fn a_stream_is_read_to_its_end_or_the_limit(rt: HostRuntime) {
+    // Bytes a call, the call that fails, the limit; the bytes that come, the calls and the bytes left.
+    let whole = [
+        ((9, 0, 9), "abcde", 2, 0),
+        ((2, 0, 9), "abcde", 4, 0),
+        ((2, 0, 5), "abcde", 3, 0),
+        ((2, 0, 4), "abcd", 2, 1),
+        ((2, 0, 3), "abc", 2, 2),
+        ((9, 0, 0), "", 0, 5),
+        ((2, 3, 4), "abcd", 2, 1),
+    ];
+    for (given, text, calls, left) in whole {
+        let (loaded, faults, made, rest) = load_given(rt.alloc(), given, ErrorKind::Other);
+        let same = loaded.is_ok_and(|bytes| bytes.as_slice() == text.as_bytes());
+        assert!(rt; same && (faults, made, rest) == (7, calls, left));
+    }
+    let failing = [((2, 1, 9), 1, 5), ((2, 2, 9), 2, 3), ((2, 4, 9), 4, 0)];
+    let kinds = [
+        ErrorKind::Other,
+        ErrorKind::OutOfMemory,
+        ErrorKind::Interrupted,
+    ];
+    for (given, calls, left) in failing {
+        for kind in kinds {
+            let (loaded, faults, made, rest) = load_given(rt.alloc(), given, kind);
+            let failed = loaded.is_err_and(|fault| fault == LoadFault::Failed);
+            assert!(rt; failed && (faults, made, rest) == (8, calls, left));
+        }
+    }
+}
+
+/// A stream that takes at most `most` bytes a call and `left` in all, and then nothing or, where it
+/// is told, an error. It notes each call: `w` with the bytes taken, `f` for a flush, `!` for an error.
+#[derive(Drop)]
+struct Taker<'a> {
+    notes: &'a mut Vec<u8>,
+    most: usize,
+    left: usize,
+    write_fails: bool,
+    flush_fails: bool,
+}
+
+impl<'a> Write for Taker<'a> {
+    fn write(&mut self, piece: &[u8]) -> io::Result<usize> {
+        let taken = self.left.min(self.most).min(piece.len());
+        if taken == 0 && self.write_fails {
+            self.notes.push(b'!')?;
+            return Err(io::Error::from(ErrorKind::Interrupted));
+        }
+        self.notes.push(b'w')?;
+        self.notes.extend_from_slice(&piece[..taken])?;
+        self.left -= taken;
+        Ok(taken)
+    }
+
+    fn flush(&mut self) -> io::Result<()> {
+        self.notes.push(b'f')?;
+        if self.flush_fails {
+            self.notes.push(b'!')?;
+            return Err(io::Error::from(ErrorKind::OutOfMemory));
+        }
+        Ok(())
+    }
+}
+
+/// Puts `abc` and then `de` into such a stream, and answers the calls noted, the puts that took their
+/// piece and the faults counted.
+fn put_given(
+    alloc: Global,
+    (most, left): (usize, usize),
+    (write_fails, flush_fails): (bool, bool),
+) -> (Vec<u8>, (bool, bool), u64) {
+    let mut notes = Vec::new(alloc);
+    let mut sink = RealSink::new(Taker {
+        notes: &mut notes,
+        most,
+        left,
+        write_fails,
+        flush_fails,
+    });
+    let first = put_into(&mut sink, b"abc").is_ok();
+    let second = put_into(&mut sink, b"de").is_ok();
+    let faults = sink.faults();
+    (notes, (first, second), faults)
+}
+
+#[test]
+fn a_piece_is_written_whole_and_then_flushed(rt: HostRuntime) {
+    // Bytes a call and in all, whether a write and the flush fail; the calls, the puts, the faults.
+    let cases = [
+        ((9, 9), (false, false), "wabcfwdef", (true, true), 0),
+        ((2, 9), (false, false), "wabwcfwdef", (true, true), 0),
+        ((9, 4), (false, false), "wabcfwdwf", (true, false), 1),
+        ((9, 4), (true, false), "wabcfwd!f", (true, false), 1),
+        ((9, 9), (false, true), "wabcf!wdef!", (false, false), 2),
+        ((9, 0), (true, true), "!f!!f!", (false, false), 4),
+    ];
+    for (given, fails, calls, taken, faults) in cases {
+        let (notes, puts, counted) = put_given(rt.alloc(), given, fails);
+        assert!(rt; notes.as_slice() == calls.as_bytes() && puts == taken && counted == faults);
+    }
+}
+
+#[test]
+fn a_long_piece_is_taken_whole(rt: HostRuntime) -> Result<(), Fail> {
+    let text = text_of(rt.alloc(), 300_000)?;
+    let mut taken = Vec::new(rt.alloc());
+    let mut sink = RealSink::new(&mut taken);
+    assert_eq!(rt; put_into(&mut sink, text.as_slice()), Ok(()));
+    assert_eq!(rt; put_into(&mut sink, b""), Ok(()));
+    assert_eq!(rt; sink.faults(), 0);
+    assert_eq!(rt; taken.as_slice(), text.as_slice());
+    Ok(())
+}
