@@ -6,7 +6,7 @@ use Rattle.std.specs.Str.{is_utf8}
 use Rattle.std.specs.Str.Lossy.{utf8_valid_len, valid_len_up_to}
 use Rattle.std.proofs.lemmas.Bool.{eqb-true, false≢true, and_parts}
 use Rattle.std.proofs.lemmas.List.{take_all}
-use Rattle.std.proofs.lemmas.Str.{is_utf8-from_IsUtf8}
+use Rattle.std.proofs.lemmas.Str.{is_utf8-from_IsUtf8, IsUtf8-from_is_utf8}
 use Rattle.sq_parse.specs.declared.form.Form.TheVariants as form
 use Rattle.sq_parse.specs.declared.mark.Mark.{Mark}
 use Rattle.sq_parse.specs.declared.mark.Mark.TheVariants as k
@@ -19,11 +19,10 @@ use Rattle.sq_parse.specs.Tok.{Tok, tok_of, toks}
 use Rattle.sq_parse.specs.Grammar as g
 use Rattle.sq_parse.specs.Grammar.{shipped}
 use Rattle.sq_parse.proofs.PieceLemmas.{pieces_none}
-use Rattle.sq_parse.proofs.ParseLemmas.{parsed_by}
 use Rattle.eddyql.specs.Words.{begins_identifier, follows_in_identifier}
 use Rattle.eddyql.specs.Script.{Token, Word, Mark as Single, skipped, first_token, token_and, tokens_of, is_reserved, is_word, is_mark, is_name, is_join_form, join_of_tokens, JoinQuery, early_script}
-use Rattle.eddyql.specs.ScriptText.{read_of, EarlyParses}
-use Rattle.eddyql.proofs.ScriptTextLemmas.{read_of-text}
+use Rattle.sq_parse.specs.Fault.{ReadsAs}
+use Rattle.eddyql.specs.ScriptText.{EarlyParses}
 use Rattle.eddyql.proofs.EarlyMarks.{is-Select, is-From, is-Where, is_name-word}
 use Rattle.eddyql.proofs.EarlyPieces.{pieces_skipped, word_at, symbol_at, pieces-word, pieces-symbol}
 use Rattle.eddyql.proofs.EarlyGrammar.{Compared, Begun, script_in, script_at}
@@ -268,9 +267,9 @@ unfolding early_script
 early_parses tables text query e = by (ltb 67108864 (length text) || not (eqb (utf8_valid_len text) (length text))) refl e
   where
     by : (b : Bool) → (ltb 67108864 (length text) || not (eqb (utf8_valid_len text) (length text))) ≡ b
-        → cond b None (join_of_tokens tables (tokens_of 15 text)) ≡ Some query → (script : Script) × (read_of text ≡ Ok script)
+        → cond b None (join_of_tokens tables (tokens_of 15 text)) ≡ Some query → (script : Script) × ReadsAs text (Ok script)
     by true f e = absurd cc
     by false f e =
         let valid = is_utf8-whole text (eqb-true (utf8_valid_len text) (length text) (is_text _ _ f)) in
         let s = Spells-text text (in_form (is_join_form (tokens_of 15 text)) _ query e) in
-        (s.0, read_of-text text valid ∙ parsed_by text s.0 (s.1, s.2))
+        (s.0, (IsUtf8-from_is_utf8 text valid, (s.1, s.2)))

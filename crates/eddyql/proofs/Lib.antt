@@ -2,6 +2,7 @@ pub mod TextLemmas
 pub mod BindingLemmas
 pub mod ScriptLemmas
 pub mod WordsLemmas
+pub mod StageLemmas
 pub mod OutcomeLemmas
 pub mod ScriptTextLemmas
 pub mod PlanLemmas
@@ -24,3 +25,4 @@ pub mod EarlyMarks
 pub mod EarlyPieces
 pub mod EarlyGrammar
 pub mod EarlyParsed
+pub mod OneOutcome

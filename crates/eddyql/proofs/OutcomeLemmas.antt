@@ -15,6 +15,7 @@ use Rattle.sq_value.specs.declared.table.Column.{Column}
 use Rattle.sq_value.specs.declared.value.ColType.TheVariants.{Integer}
 use Rattle.eddyql.specs.declared.status.TableFault.TheVariants.{NoHeading}
 use Rattle.eddyql.specs.Refusal.{MayRefuse, IsEarly}
+use Rattle.eddyql.proofs.StageLemmas.{MayRefuse-first, MayRefuse-same}
 use Rattle.eddyql.specs.declared.status.Status.{Status}
 use Rattle.eddyql.specs.declared.status.Status.TheVariants as status
 use Rattle.eddyql.specs.declared.status.FileOf.{FileOf}
@@ -35,32 +36,6 @@ early_table-front xs = by (cases_lt 67108864 (length xs))
     by : (67108864 < length xs) ⊎ (length xs ≤ 67108864) → early_table (take 67108865 xs) ≡ early_table xs
     by (inl h) = rw (front_of_long xs h, lt-ltb 67108864 (length xs) h, or-true, or-true) refl
     by (inr h) = ap early_table (take_all 67108865 xs (omega arith))
-
--- a refusal of a first step is the refusal of what begins with it
-pub MayRefuse-first : {A B : Type 0} (reads : FileOf → Type 0) (first : Result A Status) (more : A → Result B Status) (s : Status)
-    → MayRefuse reads first s → MayRefuse reads (first >>= more) s
-MayRefuse-first reads first more status.Memory h = tt
-MayRefuse-first reads first more (status.Read f) h = h
-MayRefuse-first reads first more status.Done h = h
-MayRefuse-first reads first more status.Write h = h
-MayRefuse-first reads first more status.Usage h = ap (λ x. x >>= more) h
-MayRefuse-first reads first more (status.Script f) h = ap (λ x. x >>= more) h
-MayRefuse-first reads first more (status.Bind n f) h = ap (λ x. x >>= more) h
-MayRefuse-first reads first more (status.BadTable n f) h = ap (λ x. x >>= more) h
-MayRefuse-first reads first more (status.NotFound f) h = ap (λ x. x >>= more) h
-
--- a refusal of an equal definition, for a reason that is weaker
-pub MayRefuse-same : {A : Type 0} (reads others : FileOf → Type 0) (x y : Result A Status) (s : Status) → x ≡ y → ((f : FileOf) → reads f → others f)
-    → MayRefuse reads x s → MayRefuse others y s
-MayRefuse-same reads others x y status.Memory e f h = tt
-MayRefuse-same reads others x y (status.Read g) e f h = f g h
-MayRefuse-same reads others x y status.Done e f h = h
-MayRefuse-same reads others x y status.Write e f h = h
-MayRefuse-same reads others x y status.Usage e f h = sym e ∙ h
-MayRefuse-same reads others x y (status.Script g) e f h = sym e ∙ h
-MayRefuse-same reads others x y (status.Bind n g) e f h = sym e ∙ h
-MayRefuse-same reads others x y (status.BadTable n g) e f h = sym e ∙ h
-MayRefuse-same reads others x y (status.NotFound g) e f h = sym e ∙ h
 
 -- a file that was loaded is there, and the table of its front is that of the file
 pub table_read-loaded : (number : ℕ) (files : List File) (t : TableWord) (held : Option (List File)) (bytes : List ℕ)
@@ -189,25 +164,13 @@ pub word_told : {X : Type 0} (bytes : X → List ℕ) (ws : List X) (i : ℕ) (w
 word_told bytes ws i w text h is e =
     subst (λ (b : List ℕ). get_or (map table_of_word (map bytes ws)) i (table_of_word b) ≡ table_of_word b) (sym e) (word_at bytes ws i w h is)
 
--- what a step may answer where less is told
-pub IsEarly-weaker : (told tells : Type 0) (s : Status) → (told → tells) → IsEarly told s → IsEarly tells s
-IsEarly-weaker told tells status.Memory f h = tt
-IsEarly-weaker told tells (status.Read g) f h = tt
-IsEarly-weaker told tells status.Done f h = h
-IsEarly-weaker told tells status.Write f h = h
-IsEarly-weaker told tells status.Usage f h = h
-IsEarly-weaker told tells (status.Script g) f h = h
-IsEarly-weaker told tells (status.Bind n g) f h = tt
-IsEarly-weaker told tells (status.BadTable n g) f h = tt
-IsEarly-weaker told tells (status.NotFound g) f h = f h
-
 -- a load that was refused
 pub IsEarly-loaded : (held : Option (List File)) (name : List ℕ) (f : FileOf) (rose : Type 0) (s : Status) → LoadRefused held name f rose s
     → IsEarly (IsSome held) s
-IsEarly-loaded held name f rose s (inl e) = subst (IsEarly (IsSome held)) (sym e) tt
-IsEarly-loaded held name f rose s (inr (inl h)) = subst (IsEarly (IsSome held)) (sym h.0) tt
+IsEarly-loaded held name f rose s (inl e) = subst (IsEarly (IsSome held)) (sym e) (tt, tt)
+IsEarly-loaded held name f rose s (inr (inl h)) = subst (IsEarly (IsSome held)) (sym h.0) (tt, tt)
 IsEarly-loaded None name f rose s (inr (inr h)) = absurd h.1
-IsEarly-loaded (Some files) name f rose s (inr (inr h)) = subst (IsEarly (IsSome (Some files))) (sym h.0) refl
+IsEarly-loaded (Some files) name f rose s (inr (inr h)) = subst (IsEarly (IsSome (Some files))) (sym h.0) (tt, refl)
 
 -- a reason of a read fault by a weaker one
 pub reads_weaker : (rose rises : Type 0) (P Q : FileOf → Type 0) → (rose → rises) → ((f : FileOf) → P f → Q f) → (f : FileOf) → rose × P f → rises × Q f

@@ -15,7 +15,7 @@ use Rattle.sq_expr.specs.declared.block.OutCol.{OutCol}
 use Rattle.bag_meaning.specs.Bag.{uses_of}
 use Rattle.eddyql.specs.Words.{Command}
 use Rattle.eddyql.specs.Script.{JoinQuery}
-use Rattle.eddyql.specs.ScriptText.{read_of}
+use Rattle.sq_parse.specs.declared.tree.Script.{Script}
 use Rattle.eddyql.specs.Writing.{IsOutput}
 use Rattle.eddyql.specs.Runnable.{IsRunnable}
 use Rattle.eddyql.specs.Binding.{columns_of, column_named, block_of, block_with, block_between}
@@ -28,32 +28,33 @@ use Rattle.eddyql.specs.declared.status.Status.TheVariants as status
 use Rattle.eddyql.specs.declared.status.FileOf.{FileOf}
 use Rattle.eddyql.specs.declared.status.FileOf.TheVariants as file
 use Rattle.eddyql.specs.declared.status.BindFault.TheVariants.{UnknownColumn}
-use Rattle.eddyql.proofs.OutcomeLemmas.{MayRefuse-first, MayRefuse-same}
-use Rattle.eddyql.proofs.ScriptTextLemmas.{join_read-front, join_read-fault}
+use Rattle.eddyql.proofs.StageLemmas.{MayRefuse-first, MayRefuse-same}
+use Rattle.eddyql.specs.ScriptText.{TextReadsAs, ScriptReadsAs}
+use Rattle.eddyql.proofs.ScriptTextLemmas.{TextReadsAs-loaded, join_read-front, join_read-fault}
 
 -- a script that was loaded is there, and the join of its front is that of the script
-pub query_read-loaded : (c : Command) (files : List File) (held : Option (List File)) (bytes : List ℕ)
-    → held ≡ Some files → Gives held c.script 67108865 bytes → join_read c.tables bytes ≡ query_read c files
-query_read-loaded c files held bytes told gives = by (lookup files c.script) given
+pub query_read-loaded : (read : Result Script ParseFault) (c : Command) (files : List File) (held : Option (List File)) (bytes : List ℕ)
+    → held ≡ Some files → Gives held c.script 67108865 bytes → join_read read c.tables bytes ≡ query_read read c files
+query_read-loaded read c files held bytes told gives = by (lookup files c.script) given
   where
     given : option_map (take 67108865) (lookup files c.script) ≡ Some bytes
     given = subst (λ (o : Option (List File)). Gives o c.script 67108865 bytes) told gives
 
     by : (found : Option (List ℕ)) → option_map (take 67108865) found ≡ Some bytes
-        → join_read c.tables bytes ≡ (or_refuse (status.NotFound file.Script) found >>= (λ text. join_read c.tables text))
+        → join_read read c.tables bytes ≡ (or_refuse (status.NotFound file.Script) found >>= (λ text. join_read read c.tables text))
     by None e = absurd cc
     by (Some xs) e =
         let same : take 67108865 xs ≡ bytes = cc in
-        ap (join_read c.tables) (sym same) ∙ join_read-front c.tables xs
+        ap (join_read read c.tables) (sym same) ∙ join_read-front read c.tables xs
 
 -- why a script wasn't loaded
-pub query_read-refused : (c : Command) (files : List File) (held : Option (List File)) (rose : Type 0) (reads : FileOf → Type 0) (s : Status)
-    → held ≡ Some files → (rose → reads file.Script) → LoadRefused held c.script file.Script rose s → MayRefuse reads (query_read c files) s
-query_read-refused c files held rose reads s told f (inl e) = subst (MayRefuse reads (query_read c files)) (sym e) tt
-query_read-refused c files held rose reads s told f (inr (inl h)) = subst (MayRefuse reads (query_read c files)) (sym h.0) (f h.1)
-query_read-refused c files held rose reads s told f (inr (inr h)) =
+pub query_read-refused : (read : Result Script ParseFault) (c : Command) (files : List File) (held : Option (List File)) (rose : Type 0) (reads : FileOf → Type 0) (s : Status)
+    → held ≡ Some files → (rose → reads file.Script) → LoadRefused held c.script file.Script rose s → MayRefuse reads (query_read read c files) s
+query_read-refused read c files held rose reads s told f (inl e) = subst (MayRefuse reads (query_read read c files)) (sym e) tt
+query_read-refused read c files held rose reads s told f (inr (inl h)) = subst (MayRefuse reads (query_read read c files)) (sym h.0) (f h.1)
+query_read-refused read c files held rose reads s told f (inr (inr h)) =
     let none : lookup files c.script ≡ None = subst (λ (o : Option (List File)). Lacks o c.script) told h.1 in
-    subst (MayRefuse reads (query_read c files)) (sym h.0) (rw none refl)
+    subst (MayRefuse reads (query_read read c files)) (sym h.0) (rw none refl)
 
 -- what is left of a plan behind its script, and behind its tables
 abbrev pub behind_query : JoinQuery → Command → List File → Result Plan Status
@@ -62,40 +63,40 @@ behind_query q c files = tables_read 0 files c.tables >>= (λ tables. block_boun
 abbrev pub behind_tables : JoinQuery → List Relation → Result Plan Status
 behind_tables q tables = block_bound q tables >>= (λ block. Ok record { block = block; tables = tables })
 
-pub plan_of-query : (c : Command) (files : List File) (q : JoinQuery) → query_read c files ≡ Ok q → plan_of c files ≡ behind_query q c files
+pub plan_of-query : (read : Result Script ParseFault) (c : Command) (files : List File) (q : JoinQuery) → query_read read c files ≡ Ok q → plan_of read c files ≡ behind_query q c files
 unfolding plan_of
-plan_of-query c files q e = ap (λ (r : Result JoinQuery Status). r >>= (λ query. behind_query query c files)) e
+plan_of-query read c files q e = ap (λ (r : Result JoinQuery Status). r >>= (λ query. behind_query query c files)) e
 
-pub plan_of-tables : (c : Command) (files : List File) (q : JoinQuery) (tables : List Relation) → query_read c files ≡ Ok q
-    → tables_read 0 files c.tables ≡ Ok tables → plan_of c files ≡ behind_tables q tables
-plan_of-tables c files q tables e f =
-    plan_of-query c files q e ∙ ap (λ (r : Result (List Relation) Status). r >>= (λ ts. behind_tables q ts)) f
+pub plan_of-tables : (read : Result Script ParseFault) (c : Command) (files : List File) (q : JoinQuery) (tables : List Relation) → query_read read c files ≡ Ok q
+    → tables_read 0 files c.tables ≡ Ok tables → plan_of read c files ≡ behind_tables q tables
+plan_of-tables read c files q tables e f =
+    plan_of-query read c files q e ∙ ap (λ (r : Result (List Relation) Status). r >>= (λ ts. behind_tables q ts)) f
 
 -- a script that is refused by its fault
-pub plan_of-script_fault : (c : Command) (files : List File) (text : List ℕ) (fault : ParseFault) → lookup files c.script ≡ Some text → length text ≤ 67108864
-    → read_of text ≡ Err fault → plan_of c files ≡ Err (status.Script fault)
+pub plan_of-script_fault : (read : Result Script ParseFault) (c : Command) (files : List File) (text : List ℕ) (fault : ParseFault) → lookup files c.script ≡ Some text → length text ≤ 67108864
+    → read ≡ Err fault → plan_of read c files ≡ Err (status.Script fault)
 unfolding plan_of
-plan_of-script_fault c files text fault found short e =
-    ap (λ (o : Option (List ℕ)). (or_refuse (status.NotFound file.Script) o >>= (λ z. join_read c.tables z)) >>= (λ query. behind_query query c files)) found
-    ∙ ap (λ (r : Result JoinQuery Status). r >>= (λ query. behind_query query c files)) (join_read-fault c.tables text fault short e)
+plan_of-script_fault read c files text fault found short e =
+    ap (λ (o : Option (List ℕ)). (or_refuse (status.NotFound file.Script) o >>= (λ z. join_read read c.tables z)) >>= (λ query. behind_query query c files)) found
+    ∙ ap (λ (r : Result JoinQuery Status). r >>= (λ query. behind_query query c files)) (join_read-fault read c.tables text fault short e)
 
 -- a refusal of the script is that of the plan
-pub plan_refused-query : (c : Command) (files : List File) (reads : FileOf → Type 0) (s : Status) → MayRefuse reads (query_read c files) s → MayRefuse reads (plan_of c files) s
+pub plan_refused-query : (read : Result Script ParseFault) (c : Command) (files : List File) (reads : FileOf → Type 0) (s : Status) → MayRefuse reads (query_read read c files) s → MayRefuse reads (plan_of read c files) s
 unfolding plan_of
-plan_refused-query c files reads s h = MayRefuse-first reads (query_read c files) (λ query. behind_query query c files) s h
+plan_refused-query read c files reads s h = MayRefuse-first reads (query_read read c files) (λ query. behind_query query c files) s h
 
 -- a refusal of the tables, behind a script
-pub plan_refused-tables : (c : Command) (files : List File) (q : JoinQuery) (reads : FileOf → Type 0) (s : Status) → query_read c files ≡ Ok q
-    → MayRefuse reads (tables_read 0 files c.tables) s → MayRefuse reads (plan_of c files) s
-plan_refused-tables c files q reads s e h =
-    MayRefuse-same reads reads _ _ s (sym (plan_of-query c files q e)) (λ f r. r)
+pub plan_refused-tables : (read : Result Script ParseFault) (c : Command) (files : List File) (q : JoinQuery) (reads : FileOf → Type 0) (s : Status) → query_read read c files ≡ Ok q
+    → MayRefuse reads (tables_read 0 files c.tables) s → MayRefuse reads (plan_of read c files) s
+plan_refused-tables read c files q reads s e h =
+    MayRefuse-same reads reads _ _ s (sym (plan_of-query read c files q e)) (λ f r. r)
     (MayRefuse-first reads (tables_read 0 files c.tables) (λ tables. behind_tables q tables) s h)
 
 -- a refusal of the columns, behind the tables
-pub plan_refused-block : (c : Command) (files : List File) (q : JoinQuery) (tables : List Relation) (reads : FileOf → Type 0) (s : Status) → query_read c files ≡ Ok q
-    → tables_read 0 files c.tables ≡ Ok tables → MayRefuse never (block_bound q tables) s → MayRefuse reads (plan_of c files) s
-plan_refused-block c files q tables reads s e f h =
-    MayRefuse-same never reads _ _ s (sym (plan_of-tables c files q tables e f)) (λ g (r : ⊥). absurd r)
+pub plan_refused-block : (read : Result Script ParseFault) (c : Command) (files : List File) (q : JoinQuery) (tables : List Relation) (reads : FileOf → Type 0) (s : Status) → query_read read c files ≡ Ok q
+    → tables_read 0 files c.tables ≡ Ok tables → MayRefuse never (block_bound q tables) s → MayRefuse reads (plan_of read c files) s
+plan_refused-block read c files q tables reads s e f h =
+    MayRefuse-same never reads _ _ s (sym (plan_of-tables read c files q tables e f)) (λ g (r : ⊥). absurd r)
     (MayRefuse-first never (block_bound q tables) (λ block. Ok record { block = block; tables = tables }) s h)
 
 -- a place that was found is within the list
@@ -208,6 +209,7 @@ IsRunnable-bound q tables block e integers h k =
             All-found (λ (col : Column). col.kind ≡ Integer) t.table.columns b.i c (All-found IsIntegerTable tables q.left t.table integers t.is) x
             ∙ sym (All-found (λ (col : Column). col.kind ≡ Integer) u.table.columns b.j d (All-found IsIntegerTable tables q.right u.table integers u.is) y);
       };
+      unordered = ap (λ (x : Block). x.order) b.is;
       output = subst (λ (x : Block). All (IsOutput x tables) x.output) (sym b.is)
           (All-append (IsOutput (block_with q (columns_at tables q.left) (columns_at tables q.right) b.i b.j) tables) _ _
           (outputs q _ _ b.i b.j 0 q.left tables t.table t.is (omega arith) refl (columns_at tables q.left) t.columns)
@@ -215,26 +217,29 @@ IsRunnable-bound q tables block e integers h k =
     }
 
 -- the join of a script that was loaded
-pub query_found : (c : Command) (files : List File) (held : Option (List File)) (bytes text : List ℕ) (q : JoinQuery) → held ≡ Some files
-    → Gives held c.script 67108865 bytes → text ≡ bytes → join_read c.tables text ≡ Ok q → query_read c files ≡ Ok q
-query_found c files held bytes text q told gives same e =
-    sym (query_read-loaded c files held bytes told gives) ∙ ap (join_read c.tables) (sym same) ∙ e
+pub query_found : (read : Result Script ParseFault) (c : Command) (files : List File) (held : Option (List File)) (bytes text : List ℕ) (q : JoinQuery) → held ≡ Some files
+    → Gives held c.script 67108865 bytes → text ≡ bytes → ScriptReadsAs c files read
+    → ((r : Result Script ParseFault) → TextReadsAs text r → join_read r c.tables text ≡ Ok q) → query_read read c files ≡ Ok q
+query_found read c files held bytes text q told gives same reads found =
+    sym (query_read-loaded read c files held bytes told gives) ∙ ap (join_read read c.tables) (sym same)
+    ∙ found read (TextReadsAs-loaded c files held bytes text read told gives same reads)
 
 -- the refusal of a script that was loaded
-pub query_refused : (c : Command) (files : List File) (held : Option (List File)) (bytes text : List ℕ) (reads : FileOf → Type 0) (s : Status) → held ≡ Some files
-    → Gives held c.script 67108865 bytes → text ≡ bytes → MayRefuse never (join_read c.tables text) s
-    → MayRefuse reads (plan_of c files) s
-query_refused c files held bytes text reads s told gives same h =
-    plan_refused-query c files reads s
-    (MayRefuse-same never reads _ _ s (ap (join_read c.tables) same ∙ query_read-loaded c files held bytes told gives) (λ g (r : ⊥). absurd r) h)
+pub query_refused : (read : Result Script ParseFault) (c : Command) (files : List File) (held : Option (List File)) (bytes text : List ℕ) (reads : FileOf → Type 0) (s : Status) → held ≡ Some files
+    → Gives held c.script 67108865 bytes → text ≡ bytes → ScriptReadsAs c files read
+    → ((r : Result Script ParseFault) → TextReadsAs text r → MayRefuse never (join_read r c.tables text) s) → MayRefuse reads (plan_of read c files) s
+query_refused read c files held bytes text reads s told gives same here h =
+    plan_refused-query read c files reads s
+    (MayRefuse-same never reads _ _ s (ap (join_read read c.tables) same ∙ query_read-loaded read c files held bytes told gives) (λ g (r : ⊥). absurd r)
+    (h read (TextReadsAs-loaded c files held bytes text read told gives same here)))
 
 -- the plan of a block that was bound
-pub plan_found : (c : Command) (files : List File) (q : JoinQuery) (tables : List Relation) (block : Block) → query_read c files ≡ Ok q
-    → tables_read 0 files c.tables ≡ Ok tables → block_bound q tables ≡ Ok block → plan_of c files ≡ Ok record { block = block; tables = tables }
-plan_found c files q tables block e f h =
-    plan_of-tables c files q tables e f ∙ ap (λ (r : Result Block Status). r >>= (λ b. Ok record { block = b; tables = tables })) h
+pub plan_found : (read : Result Script ParseFault) (c : Command) (files : List File) (q : JoinQuery) (tables : List Relation) (block : Block) → query_read read c files ≡ Ok q
+    → tables_read 0 files c.tables ≡ Ok tables → block_bound q tables ≡ Ok block → plan_of read c files ≡ Ok record { block = block; tables = tables }
+plan_found read c files q tables block e f h =
+    plan_of-tables read c files q tables e f ∙ ap (λ (r : Result Block Status). r >>= (λ b. Ok record { block = b; tables = tables })) h
 
 -- a table that is reached behind a script that is in form
-pub Reached-table : (c : Command) (files : List File) (q : JoinQuery) (f : FileOf) → query_read c files ≡ Ok q → ReachedTable files c.tables f → Reached c files f
-Reached-table c files q file.Script e h = absurd h
-Reached-table c files q (file.Table n) e h = (subst (λ (r : Result JoinQuery Status). IsOk r) (sym e) refl, h)
+pub Reached-table : (read : Result Script ParseFault) (c : Command) (files : List File) (q : JoinQuery) (f : FileOf) → query_read read c files ≡ Ok q → ReachedTable files c.tables f → Reached read c files f
+Reached-table read c files q file.Script e h = absurd h
+Reached-table read c files q (file.Table n) e h = (subst (λ (r : Result JoinQuery Status). IsOk r) (sym e) refl, h)

@@ -8,10 +8,12 @@ use Rattle.sq_parse.specs.declared.parser.ParseFault.TheVariants as parser
 use Rattle.sq_parse.specs.declared.tree.Script.{Script}
 use Rattle.eddyql.specs.Words.{Command, TableWord}
 use Rattle.eddyql.specs.Script.{JoinQuery, early_script}
-use Rattle.eddyql.specs.ScriptText.{read_of, HasScript, RefusesScript}
+use Rattle.sq_parse.specs.Fault.{IsFault, ReadsAs}
+use Rattle.sq_parse.proofs.OneReading.{one_reading, same_reading}
+use Rattle.eddyql.specs.ScriptText.{HasScript, RefusesScript}
 use Rattle.eddyql.specs.TableText.{early_table}
 use Rattle.eddyql.specs.Binding.{block_of}
-use Rattle.eddyql.specs.Outcome.{◌>>=◌, or_refuse, join_read, table_read, tables_read, columns_at, block_bound, plan_of, outcome, text_of}
+use Rattle.eddyql.specs.Outcome.{◌>>=◌, or_refuse, join_read, table_read, tables_read, columns_at, block_bound, plan_of, outcome, text_of, IsOutcome}
 use Rattle.eddyql.specs.Refusal.{IsEarly}
 use Rattle.eddyql.specs.Run.{MayEnd, IsLate}
 use Rattle.eddyql.specs.declared.plan.Plan.{Plan}
@@ -21,9 +23,9 @@ use Rattle.eddyql.specs.declared.status.FileOf.{FileOf}
 use Rattle.eddyql.specs.declared.status.FileOf.TheVariants as file
 use Rattle.eddyql.specs.declared.status.TableFault.TheVariants.{NoHeading}
 use Rattle.eddyql.specs.declared.status.BindFault.TheVariants.{UnknownColumn}
-use Rattle.eddyql.proofs.ScriptTextLemmas.{no_join, join_read-script, read_of-fault, fault-read_of}
+use Rattle.eddyql.proofs.ScriptTextLemmas.{no_join, join_read-script}
 use Rattle.eddyql.proofs.PlanLemmas.{behind_query, plan_of-script_fault}
-use Rattle.eddyql.proofs.RunLemmas.{outcome-plan}
+use Rattle.eddyql.proofs.RunLemmas.{outcome-plan, outcome_by}
 
 -- a step isn't refused by a fault of a script
 abbrev NoFault : {A : Type 0} → Result A Status → Type 0
@@ -72,30 +74,29 @@ formless : (c : Command) (files : List File) (fault : ParseFault) (found : Optio
 formless c files fault None e = (sym (same_fault (refusal e)), refl)
 formless c files fault (Some q) e = absurd (other_behind q c files fault e)
 
-plan_formless : (c : Command) (files : List File) (text : List ℕ) (fault : ParseFault) → lookup files c.script ≡ Some text → length text ≤ 67108864 → IsOk (read_of text)
-    → plan_of c files ≡ Err (status.Script fault) → (fault ≡ Syntax 0) × (early_script c.tables text ≡ None)
+plan_formless : (read : Result Script ParseFault) (c : Command) (files : List File) (text : List ℕ) (fault : ParseFault) → lookup files c.script ≡ Some text → length text ≤ 67108864 → IsOk read
+    → plan_of read c files ≡ Err (status.Script fault) → (fault ≡ Syntax 0) × (early_script c.tables text ≡ None)
 unfolding plan_of
-plan_formless c files text fault found short ok e =
-    let by_text = ap (λ (o : Option (List ℕ)). (or_refuse (status.NotFound file.Script) o >>= (λ z. join_read c.tables z)) >>= (λ query. behind_query query c files)) found in
-    let by_form = ap (λ (r : Result JoinQuery Status). r >>= (λ query. behind_query query c files)) (join_read-script c.tables text short ok) in
+plan_formless read c files text fault found short ok e =
+    let by_text = ap (λ (o : Option (List ℕ)). (or_refuse (status.NotFound file.Script) o >>= (λ z. join_read read c.tables z)) >>= (λ query. behind_query query c files)) found in
+    let by_form = ap (λ (r : Result JoinQuery Status). r >>= (λ query. behind_query query c files)) (join_read-script read c.tables text short ok) in
     formless c files fault (early_script c.tables text) (sym by_form ∙ (sym by_text ∙ e))
 
-plan_fault : (c : Command) (files : List File) (text : List ℕ) (fault : ParseFault) (r : Result Script ParseFault) → lookup files c.script ≡ Some text → length text ≤ 67108864 → read_of text ≡ r
-    → plan_of c files ≡ Err (status.Script fault) → RefusesScript c.tables text fault
-plan_fault c files text fault (Err f) found short e h =
-    let same = same_fault (refusal (sym (plan_of-script_fault c files text f found short e) ∙ h)) in
-    inl (fault-read_of text fault (e ∙ ap Err same))
-plan_fault c files text fault (Ok s) found short e h =
-    let ok : IsOk (read_of text) = subst (λ (r : Result Script ParseFault). IsOk r) (sym e) refl in
-    let p = plan_formless c files text fault found short ok h in
-    inr (p.0, p.1, λ f is. no_both (sym e ∙ read_of-fault text f is))
+plan_fault : (read : Result Script ParseFault) (c : Command) (files : List File) (text : List ℕ) (fault : ParseFault) → lookup files c.script ≡ Some text → length text ≤ 67108864
+    → ReadsAs text read → plan_of read c files ≡ Err (status.Script fault) → RefusesScript c.tables text fault
+plan_fault (Err f) c files text fault found short reads h =
+    let same = same_fault (refusal (sym (plan_of-script_fault (Err f) c files text f found short refl) ∙ h)) in
+    inl (subst (IsFault text) same reads)
+plan_fault (Ok s) c files text fault found short reads h =
+    let p = plan_formless (Ok s) c files text fault found short refl h in
+    inr (p.0, p.1, λ f is. no_both (same_reading text (Ok s) (Err f) reads is))
   where
     no_both : {f : ParseFault} → ◌≡◌ {A = Result Script ParseFault} (Ok s) (Err f) → ⊥
     no_both x = cc
 
 -- a step before the output names no want of memory as a fault of the script, and one behind it no fault of it at all
 pub early_other : (told : Type 0) (s : Status) → IsEarly told s → s ≡ status.Script parser.Memory → ⊥
-early_other told s early e = let h : IsEarly told (status.Script parser.Memory) = subst (IsEarly told) e early in h refl
+early_other told s early e = let h : IsEarly told (status.Script parser.Memory) = subst (IsEarly told) e early in h.1 refl
 
 pub late_other : (s : Status) (f : ParseFault) → IsLate s → s ≡ status.Script f → ⊥
 late_other s f late e = subst IsLate e late
@@ -104,9 +105,13 @@ plan_refuses : (plan : Result Plan Status) (s : Status) → (plan >>= (λ p. Ok 
 plan_refuses (Err t) s e = ap Err (refusal e)
 plan_refuses (Ok p) s e = absurd (no_answer e)
 
+-- a run that ends by a fault of its script, and may end so where the outcome is due
 pub script_fault_only : (words : List (List ℕ)) (files : List File) (text : List ℕ) (fault : ParseFault) (reads : FileOf → Type 0) (writes : Type 0) (s : Status)
-    → (script : HasScript words files text) → MayEnd reads writes (outcome words files) s → s ≡ status.Script fault → RefusesScript script.asked.tables text fault
-script_fault_only words files text fault reads writes s has h e =
-    let due : outcome words files ≡ Err (status.Script fault) = subst (MayEnd reads writes (outcome words files)) e h in
-    let plan = plan_refuses (plan_of has.asked files) (status.Script fault) (sym (outcome-plan words has.asked files has.in_form) ∙ due) in
-    plan_fault has.asked files text fault (read_of text) has.found has.short refl plan
+    → (script : HasScript words files text) → ((due : Result (List ℕ) Status) → IsOutcome words files due → MayEnd reads writes due s)
+    → s ≡ status.Script fault → RefusesScript script.asked.tables text fault
+script_fault_only words files text fault reads writes s has ends e =
+    let r = one_reading text in
+    let due = outcome r.0 words files in
+    let refused : due ≡ Err (status.Script fault) = subst (MayEnd reads writes due) e (ends due (outcome_by words files text r.0 has r.1)) in
+    let plan = plan_refuses (plan_of r.0 has.asked files) (status.Script fault) (sym (outcome-plan r.0 words has.asked files has.in_form) ∙ refused) in
+    plan_fault r.0 has.asked files text fault has.found has.short r.1 plan

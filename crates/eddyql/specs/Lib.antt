@@ -1,4 +1,4 @@
-pub mod Code
+pub mod Stage
 pub mod Words
 pub mod Script
 pub mod ScriptText

@@ -4,13 +4,14 @@ use Rattle.std.specs.Option.{option_map_or}
 use Rattle.sq_value.specs.Relation.{Relation}
 use Rattle.sq_value.specs.declared.table.Column.{Column}
 use Rattle.sq_expr.specs.declared.block.Block.{Block}
-use Rattle.bag_meaning.specs.Bag.{bag}
-use Rattle.bag_meaning.specs.Answer.{answer_text}
+use Rattle.bag_meaning.specs.Answer.{answer, answer_text}
 use Rattle.outside.specs.Files.{File, lookup}
+use Rattle.sq_parse.specs.declared.parser.ParseFault.{ParseFault}
 use Rattle.sq_parse.specs.declared.parser.ParseFault.TheVariants.{Syntax}
+use Rattle.sq_parse.specs.declared.tree.Script.{Script}
 use Rattle.eddyql.specs.Words.{TableWord, Command, command}
 use Rattle.eddyql.specs.Script.{JoinQuery, early_script}
-use Rattle.eddyql.specs.ScriptText.{read_of, or_fault}
+use Rattle.eddyql.specs.ScriptText.{ScriptReadsAs, or_fault}
 use Rattle.eddyql.specs.TableText.{early_table}
 use Rattle.eddyql.specs.Join.{no_meaning}
 use Rattle.eddyql.specs.Binding.{block_of}
@@ -47,21 +48,21 @@ tables_read number files (t ∷ ts) = do
   tables ← tables_read (number + 1) files ts
   Ok (table ∷ tables)
 
--- the join that a text asks for over these tables: it spells a script, and that is in the early form
-abbrev pub join_spelled : List TableWord → List ℕ → Result JoinQuery Status
-join_spelled tables text = do
-  script ← or_fault (read_of text)
+-- the join that a text that reads as this asks for over these tables: it spells a script, and that is in the early form
+abbrev pub join_spelled : Result Script ParseFault → List TableWord → List ℕ → Result JoinQuery Status
+join_spelled read tables text = do
+  script ← or_fault read
   or_refuse (status.Script (Syntax 0)) (early_script tables text)
 
 -- the same, where the text has at most 67,108,864 bytes; a longer one isn't read
-unfoldable pub join_read : List TableWord → List ℕ → Result JoinQuery Status
-join_read tables text = if nat_lt 67108864 (length text) then Err (status.Script (Syntax 0)) else join_spelled tables text
+unfoldable pub join_read : Result Script ParseFault → List TableWord → List ℕ → Result JoinQuery Status
+join_read read tables text = if nat_lt 67108864 (length text) then Err (status.Script (Syntax 0)) else join_spelled read tables text
 
 -- the join that the script of a command asks for
-abbrev pub query_read : Command → List File → Result JoinQuery Status
-query_read c files = do
+abbrev pub query_read : Result Script ParseFault → Command → List File → Result JoinQuery Status
+query_read read c files = do
   text ← or_refuse (status.NotFound file.Script) (lookup files c.script)
-  join_read c.tables text
+  join_read read c.tables text
 
 -- the columns of a table
 abbrev pub columns_at : List Relation → ℕ → List Column
@@ -73,9 +74,9 @@ block_bound query tables =
     or_refuse (status.Bind 1 (UnknownColumn 0)) (block_of query (columns_at tables query.left) (columns_at tables query.right))
 
 -- the plan of a command over files: the script is read first, then the tables in order, then the columns are bound
-unfoldable pub plan_of : Command → List File → Result Plan Status
-plan_of c files = do
-  query ← query_read c files
+unfoldable pub plan_of : Result Script ParseFault → Command → List File → Result Plan Status
+plan_of read c files = do
+  query ← query_read read c files
   tables ← tables_read 0 files c.tables
   block ← block_bound query tables
   Ok record { block = block; tables = tables }
@@ -86,21 +87,36 @@ ReachedTable files tables file.Script = ⊥
 ReachedTable files tables (file.Table number) = (number < length tables) × IsOk (tables_read 0 files (take number tables))
 
 -- whether nothing refuses before a file of a command is loaded: the script is loaded first, then the tables in order
-abbrev pub Reached : Command → List File → FileOf → Type 0
-Reached c files file.Script = ⊤
-Reached c files (file.Table number) = IsOk (query_read c files) × ReachedTable files c.tables (file.Table number)
+abbrev pub Reached : Result Script ParseFault → Command → List File → FileOf → Type 0
+Reached read c files file.Script = ⊤
+Reached read c files (file.Table number) = IsOk (query_read read c files) × ReachedTable files c.tables (file.Table number)
 
 -- the same of words
-abbrev pub ReachedBy : List (List ℕ) → List File → FileOf → Type 0
-ReachedBy words files f = (c : Command) × (command words ≡ Some c) × Reached c files f
+pub record ReachedBy (words : List (List ℕ)) (files : List File) (f : FileOf) : Type 0 where
+  pub asked : Command
+  pub in_form : command words ≡ Some asked
+  pub read : Result Script ParseFault
+  pub reads : ScriptReadsAs asked files read
+  pub reached : Reached read asked files f
 
--- the text that a plan's answer has: without ORDER BY the answer is the bag in the order of the product
+-- the text that a plan's answer has
 abbrev pub text_of : Plan → List ℕ
-text_of plan = answer_text plan.block plan.tables (bag no_meaning plan.block plan.tables)
+text_of plan = answer_text plan.block plan.tables (answer no_meaning plan.block plan.tables)
 
--- the outcome of words over files
-unfoldable pub outcome : List (List ℕ) → List File → Result (List ℕ) Status
-outcome words files = do
+-- the outcome of words over files, where their script reads as this
+unfoldable pub outcome : Result Script ParseFault → List (List ℕ) → List File → Result (List ℕ) Status
+outcome read words files = do
   c ← or_refuse status.Usage (command words)
-  plan ← plan_of c files
+  plan ← plan_of read c files
   Ok (text_of plan)
+
+-- the outcome of words over files: a text that is due, or the first refusal
+pub record IsOutcome (words : List (List ℕ)) (files : List File) (due : Result (List ℕ) Status) : Type 0 where
+  pub read : Result Script ParseFault
+  pub reads : (c : Command) → command words ≡ Some c → ScriptReadsAs c files read
+  pub is : due ≡ outcome read words files
+
+-- the law that there is one outcome
+abbrev pub OneOutcome : Type 0
+OneOutcome = (words : List (List ℕ)) (files : List File)
+    → (due : Result (List ℕ) Status) × IsOutcome words files due × ((other : Result (List ℕ) Status) → IsOutcome words files other → other ≡ due)

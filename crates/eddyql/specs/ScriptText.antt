@@ -1,22 +1,22 @@
--- The text of a script: one that isn't too long is read by the whole grammar.
-use Rattle.std.specs.Prelude.{◌≡◌, ◌⊎◌, ◌≤◌, ℕ, List, length, Some, None, Result, Ok, Err, if◌then◌else◌}
-use Rattle.std.specs.Str.{is_utf8}
-use Rattle.std.specs.Str.Lossy.{utf8_valid_len}
+-- The text of a script: one that isn't too long is read by the whole grammar, as sq_parse defines it.
+use Rattle.std.specs.Prelude.{◌≡◌, ◌⊎◌, ◌≤◌, ℕ, List, length, Some, None, Result, Ok, Err}
 use Rattle.sq_parse.specs.declared.parser.ParseFault.{ParseFault}
-use Rattle.sq_parse.specs.declared.parser.ParseFault.TheVariants.{NotUtf8, Syntax, Memory}
+use Rattle.sq_parse.specs.declared.parser.ParseFault.TheVariants.{Syntax, Memory}
 use Rattle.sq_parse.specs.declared.tree.Script.{Script}
-use Rattle.sq_parse.specs.Parse.{parsed}
-use Rattle.sq_parse.specs.Fault.{IsFault}
+use Rattle.sq_parse.specs.Fault.{IsFault, ReadsAs}
 use Rattle.outside.specs.Files.{File, lookup}
 use Rattle.eddyql.specs.Words.{Command, TableWord, command}
 use Rattle.eddyql.specs.Script.{JoinQuery, early_script}
 use Rattle.eddyql.specs.declared.status.Status.{Status}
 use Rattle.eddyql.specs.declared.status.Status.TheVariants as status
 
--- the script that a text spells, or why it spells none: first that it isn't UTF-8, told by the first byte at which no
--- character begins
-unfoldable pub read_of : List ℕ → Result Script ParseFault
-read_of text = if is_utf8 text then parsed text else Err (NotUtf8 (utf8_valid_len text))
+-- a text that isn't too long reads as this: as the script that it spells, or as its fault
+abbrev pub TextReadsAs : List ℕ → Result Script ParseFault → Type 0
+TextReadsAs text read = length text ≤ 67108864 → ReadsAs text read
+
+-- so does the script of a command, where the files hold it
+abbrev pub ScriptReadsAs : Command → List File → Result Script ParseFault → Type 0
+ScriptReadsAs c files read = (text : List ℕ) → lookup files c.script ≡ Some text → TextReadsAs text read
 
 -- a fault of a script refuses a run
 abbrev pub or_fault : {A : Type 0} → Result A ParseFault → Result A Status
@@ -43,4 +43,4 @@ pub record HasScript (words : List (List ℕ)) (files : List File) (text : List 
 
 -- the law that a script in the early form is a script of the grammar
 abbrev pub EarlyParses : Type 0
-EarlyParses = (tables : List TableWord) (text : List ℕ) (query : JoinQuery) → early_script tables text ≡ Some query → (script : Script) × (read_of text ≡ Ok script)
+EarlyParses = (tables : List TableWord) (text : List ℕ) (query : JoinQuery) → early_script tables text ≡ Some query → (script : Script) × ReadsAs text (Ok script)

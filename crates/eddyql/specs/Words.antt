@@ -1,5 +1,5 @@
 -- The form of the command line: a script's file, and 1 to 16 tables, each a name, `=` and a file.
-use Rattle.std.specs.Prelude.{ℕ, Bool, true, false, not, ◌&&◌, ◌||◌, ◌==◌, nat_lt, nat_le, List, [], ◌∷◌, length, Option, Some, None, option_map, if◌then◌else◌}
+use Rattle.std.specs.Prelude.{ℕ, Bool, true, false, not, ◌&&◌, ◌||◌, ◌==◌, nat_lt, nat_le, List, [], ◌∷◌, length, map, Option, Some, None, option_map, if◌then◌else◌}
 use Rattle.std.specs.Option.{option_and_then}
 use Rattle.std.specs.List.{list_all, list_any, before_first, after_first}
 use Rattle.std.specs.Char.{is_ascii_alphabetic, is_ascii_digit}
@@ -40,6 +40,10 @@ is_table_word word =
 -- the name and the file of a word of that form
 abbrev pub table_of_word : List ℕ → TableWord
 table_of_word word = record { name = before_first is_equals word; file = after_first is_equals word }
+
+-- the command of a script's file and table words
+abbrev pub command_of : List ℕ → List (List ℕ) → Command
+command_of script words = record { script = script; tables = map table_of_word words }
 
 -- the tables of the words, where each is of that form
 unfoldable pub tables_of_words : List (List ℕ) → Option (List TableWord)

@@ -1,15 +1,16 @@
 //! From files to a plan: the script is parsed and read first, then the tables in order, then the
 //! columns are bound.
 
-ghost use Rattle.std.specs.Prelude.{◌≡◌, ◌<◌, ◌≤◌, ℕ, List, Some, None, Ok, IsSome, IsOk, IfOk, IfErr, OnOk, All, map, length};
+ghost use Rattle.std.specs.Prelude.{◌≡◌, ◌<◌, ◌≤◌, ℕ, List, Some, None, Result, Ok, IsSome, IsOk, IfOk, IfErr, OnOk, All, map, length};
 ghost use Rattle.std.specs.String.{string_bytes};
 ghost use Rattle.sq_value.specs.Relation.{Relation};
 ghost use Rattle.outside.specs.Files.{File};
 ghost use Rattle.outside.specs.Faults.{NeverFalls, Rose};
-ghost use Rattle.eddyql.specs.Words.{table_of_word};
+ghost use Rattle.eddyql.specs.Words.{table_of_word, command_of};
 ghost use Rattle.eddyql.specs.Script.{early_script};
 ghost use Rattle.eddyql.specs.Seen.{join_seen};
 ghost use Rattle.eddyql.specs.ScriptText as text_spec;
+ghost use Rattle.eddyql.specs.Stage.{file_unread};
 ghost use Rattle.eddyql.specs.Outcome.{or_refuse, join_read, block_bound, plan_of, Reached};
 ghost use Rattle.eddyql.specs.Refusal.{MayRefuse, IsEarly, never};
 ghost use Rattle.eddyql.specs.Loaded.{IsIntegerTable};
@@ -17,6 +18,9 @@ ghost use Rattle.eddyql.specs.Runnable.{IsRunnable};
 ghost use Rattle.eddyql.specs.declared.status.FileOf.{FileOf};
 ghost use Rattle.eddyql.specs.declared.status.Status.TheVariants as status;
 ghost use Rattle.sq_parse.specs.declared.parser.ParseFault.TheVariants.{Syntax};
+ghost use Rattle.sq_parse.specs.declared.parser.ParseFault.{ParseFault};
+ghost use Rattle.sq_parse.specs.declared.tree.Script.{Script};
+ghost use Rattle.sq_parse.specs.Fault.{ReadsAs};
 
 use crate::binding::bind;
 use crate::loading::{load, load_tables};
@@ -37,6 +41,7 @@ const NO_JOIN: Status = Status::Script {
 // The refusal of a script by a fault.
 fn refusal_of(fault: ParseFault) -> Status
     ensures status { result ≡ text_spec.refusal_of fault }
+    ensures unread { file_unread result ≡ None }
     ensures early { IsEarly ⊥ result }
 {
     match fault {
@@ -48,8 +53,9 @@ fn refusal_of(fault: ParseFault) -> Status
 // Parses a text, so that only a script is read further. Its tree is dropped.
 fn check_script(alloc: Global, text: &[u8]) -> Result<(), Status>
     requires { length text.now ≤ 67108864 }
-    ensures ok { IfOk result (λ done. IsOk (text_spec.read_of text.now)) }
-    ensures refused { IfErr result (MayRefuse never (text_spec.or_fault (text_spec.read_of text.now))) }
+    ensures ok { IfOk result (λ done. (read : Result Script ParseFault) → ReadsAs text.now read → IsOk read) }
+    ensures refused { IfErr result (λ s. (read : Result Script ParseFault) → ReadsAs text.now read → MayRefuse never (text_spec.or_fault read) s) }
+    ensures unread { IfErr result (λ s. file_unread s ≡ None) }
     ensures early { IfErr result (IsEarly ⊥) }
 {
     match parse(alloc, text) {
@@ -64,6 +70,7 @@ fn early_join<'s>(alloc: Global, tables: &[String], text: &'s [u8]) -> Result<Jo
     ensures left { IfOk result (λ query. query.left < length tables.now) }
     ensures right { IfOk result (λ query. query.right < length tables.now) }
     ensures refused { IfErr result (MayRefuse never (or_refuse (status.Script (Syntax 0)) (early_script (map table_of_word (map string_bytes tables.now)) text.now))) }
+    ensures unread { IfErr result (λ s. file_unread s ≡ None) }
     ensures early { IfErr result (IsEarly ⊥) }
 {
     match read_script(alloc, tables, text) {
@@ -75,10 +82,13 @@ fn early_join<'s>(alloc: Global, tables: &[String], text: &'s [u8]) -> Result<Jo
 
 // The join that the text of a script asks for.
 fn find_query<'s>(alloc: Global, tables: &[String], text: &'s [u8]) -> Result<JoinQuery<'s>, Status>
-    ensures ok { IfOk result (λ query. join_read (map table_of_word (map string_bytes tables.now)) text.now ≡ Ok (join_seen query)) }
+    ensures ok { IfOk result (λ query. (read : Result Script ParseFault) → text_spec.TextReadsAs text.now read
+        → join_read read (map table_of_word (map string_bytes tables.now)) text.now ≡ Ok (join_seen query)) }
     ensures left { IfOk result (λ query. query.left < length tables.now) }
     ensures right { IfOk result (λ query. query.right < length tables.now) }
-    ensures refused { IfErr result (MayRefuse never (join_read (map table_of_word (map string_bytes tables.now)) text.now)) }
+    ensures refused { IfErr result (λ s. (read : Result Script ParseFault) → text_spec.TextReadsAs text.now read
+        → MayRefuse never (join_read read (map table_of_word (map string_bytes tables.now)) text.now) s) }
+    ensures unread { IfErr result (λ s. file_unread s ≡ None) }
     ensures early { IfErr result (IsEarly ⊥) }
 {
     if text.len() > MAX_BYTES {
@@ -132,12 +142,13 @@ pub fn prepare<F: Folder>(
     ensures keeps { F.holds folder.new ≡ F.holds folder.old }
     ensures counts { NeverFalls (F.faults folder.old) (F.faults folder.new) }
     ensures told { IfOk result (λ plan. (files : List File) → F.holds folder.old ≡ Some files
-        → plan_of record { script = script.now; tables = map table_of_word (map string_bytes tables.now) } files ≡ Ok plan) }
+        → (read : Result Script ParseFault) → text_spec.ScriptReadsAs (command_of script.now (map string_bytes tables.now)) files read
+        → plan_of read (command_of script.now (map string_bytes tables.now)) files ≡ Ok plan) }
     ensures runnable { IfOk result (λ plan. IsRunnable plan.block plan.tables) }
     ensures refused { IfErr result (λ s. (files : List File) → F.holds folder.old ≡ Some files
-        → MayRefuse (λ f. Rose (F.faults folder.old) (F.faults folder.new)
-        × Reached record { script = script.now; tables = map table_of_word (map string_bytes tables.now) } files f)
-        (plan_of record { script = script.now; tables = map table_of_word (map string_bytes tables.now) } files) s) }
+        → (read : Result Script ParseFault) → text_spec.ScriptReadsAs (command_of script.now (map string_bytes tables.now)) files read
+        → MayRefuse (λ f. Rose (F.faults folder.old) (F.faults folder.new) × Reached read (command_of script.now (map string_bytes tables.now)) files f)
+        (plan_of read (command_of script.now (map string_bytes tables.now)) files) s) }
     ensures read { IfErr result (λ s. (f : FileOf) → s ≡ status.Read f → Rose (F.faults folder.old) (F.faults folder.new)) }
     ensures early { IfErr result (IsEarly (IsSome (F.holds folder.old))) }
 {

@@ -1,19 +1,19 @@
 //! The top call: from words, files and an output to a status.
 
-ghost use Rattle.std.specs.Prelude.{◌≡◌, ◌⊎◌, ℕ, List, Some, None, Ok, Err, IsSome, IsOkAnd, map, take};
+ghost use Rattle.std.specs.Prelude.{◌≡◌, ◌⊎◌, ℕ, List, Some, None, Result, Ok, Err, IsSome, IsOkAnd, map, take};
 ghost use Rattle.std.specs.String.{string_bytes};
 ghost use Rattle.outside.specs.Files.{File};
 ghost use Rattle.outside.specs.Faults.{NeverFalls, Rose};
 ghost use Rattle.outside.specs.Told.{Adds, AddsFront};
 ghost use Rattle.sq_parse.specs.declared.parser.ParseFault.{ParseFault};
 ghost use Rattle.sq_parse.specs.declared.parser.ParseFault.TheVariants as parser;
-ghost use Rattle.bag_meaning.specs.Bag.{bag};
+ghost use Rattle.bag_meaning.specs.Answer.{answer};
 ghost use Rattle.eddyql.specs.Words.{command};
 ghost use Rattle.sq_parse.specs.Fault.{IsFault};
 ghost use Rattle.eddyql.specs.ScriptText.{HasScript, RefusesScript};
 ghost use Rattle.eddyql.specs.Join.{no_meaning};
 ghost use Rattle.eddyql.specs.Writing.{HasRows, rows_of_combo};
-ghost use Rattle.eddyql.specs.Outcome.{outcome, text_of, ReachedBy};
+ghost use Rattle.eddyql.specs.Outcome.{IsOutcome, OneOutcome, text_of, ReachedBy};
 ghost use Rattle.eddyql.specs.Run.{MayEnd, status_of, text_due, IsLate, IsBeforeOutput};
 ghost use Rattle.eddyql.specs.Runnable.{IsRunnable};
 ghost use Rattle.eddyql.specs.declared.status.FileOf.{FileOf};
@@ -31,7 +31,7 @@ use std::alloc::Global;
 // Writes the answer of a plan, whose combinations were found.
 fn put_answer<O: Sink>(alloc: Global, plan: &Plan, combos: &[Combo], out: &mut O) -> Status
     requires runnable { IsRunnable plan.now.block plan.now.tables }
-    requires found { map (λ (c : Combo). take 2 c.rows) combos.now ≡ bag no_meaning plan.now.block plan.now.tables }
+    requires found { map (λ (c : Combo). take 2 c.rows) combos.now ≡ answer no_meaning plan.now.block plan.now.tables }
     ensures counts { NeverFalls (O.faults out.old) (O.faults out.new) }
     ensures done { result ≡ Status.Done → Adds (O.written out.old) (O.written out.new) (text_of plan.now) }
     ensures front { AddsFront (O.written out.old) (O.written out.new) (text_of plan.now) }
@@ -46,7 +46,7 @@ fn put_answer<O: Sink>(alloc: Global, plan: &Plan, combos: &[Combo], out: &mut O
 }
 
 // Runs a plan and writes its answer.
-fn answer<O: Sink>(alloc: Global, plan: &Plan, out: &mut O) -> Status
+fn run_plan<O: Sink>(alloc: Global, plan: &Plan, out: &mut O) -> Status
     requires { IsRunnable plan.now.block plan.now.tables }
     ensures counts { NeverFalls (O.faults out.old) (O.faults out.new) }
     ensures done { result ≡ Status.Done → Adds (O.written out.old) (O.written out.new) (text_of plan.now) }
@@ -82,17 +82,21 @@ pub fn run<F: Folder, O: Sink, N: Sink>(
     ensures folder_counts { NeverFalls (F.faults folder.old) (F.faults folder.new) }
     ensures out_counts { NeverFalls (O.faults out.old) (O.faults out.new) }
     ensures notes { N.written notes.new ≡ N.written notes.old }
+    ensures notes_count { N.faults notes.new ≡ N.faults notes.old }
 
     // The headline: what is written where the run is done.
     ensures done { result ≡ Status.Done → (files : List File) → F.holds folder.old ≡ Some files
-        → IsOkAnd (outcome (map string_bytes words.now) files) (λ text. Adds (O.written out.old) (O.written out.new) text) }
+        → (due : Result (List ℕ) Status) → IsOutcome (map string_bytes words.now) files due
+        → IsOkAnd due (λ text. Adds (O.written out.old) (O.written out.new) text) }
 
     // Each status has its cause.
     ensures causes { (files : List File) → F.holds folder.old ≡ Some files
+        → (due : Result (List ℕ) Status) → IsOutcome (map string_bytes words.now) files due
         → MayEnd (λ file. Rose (F.faults folder.old) (F.faults folder.new) × ReachedBy (map string_bytes words.now) files file)
-        (Rose (O.faults out.old) (O.faults out.new)) (outcome (map string_bytes words.now) files) result }
+        (Rose (O.faults out.old) (O.faults out.new)) due result }
     ensures usage_only { result ≡ Status.Usage → command (map string_bytes words.now) ≡ None }
     ensures usage { command (map string_bytes words.now) ≡ None → result ≡ Status.Usage }
+    ensures untouched { command (map string_bytes words.now) ≡ None → folder.new ≡ folder.old }
     ensures syntax { (files : List File) → F.holds folder.old ≡ Some files → (text : List ℕ) (fault : ParseFault)
         → HasScript (map string_bytes words.now) files text → IsFault text fault → ¬ (Rose (F.faults folder.old) (F.faults folder.new))
         → (result ≡ Status.Script fault) ⊎ (result ≡ Status.Memory) }
@@ -106,12 +110,14 @@ pub fn run<F: Folder, O: Sink, N: Sink>(
     // Without a fault the status is the outcome's, or want of memory.
     ensures complete { (files : List File) → F.holds folder.old ≡ Some files
         → ¬ (Rose (F.faults folder.old) (F.faults folder.new)) → ¬ (Rose (O.faults out.old) (O.faults out.new))
-        → (result ≡ status_of (outcome (map string_bytes words.now) files)) ⊎ (result ≡ Status.Memory) }
+        → (due : Result (List ℕ) Status) → IsOutcome (map string_bytes words.now) files due
+        → (result ≡ status_of due) ⊎ (result ≡ Status.Memory) }
 
     // Nothing but a front of the text that is due is written, and nothing at all by a refusal before the output.
     ensures nothing { IsBeforeOutput result → O.written out.new ≡ O.written out.old }
     ensures front { (files : List File) → F.holds folder.old ≡ Some files
-        → AddsFront (O.written out.old) (O.written out.new) (text_due (outcome (map string_bytes words.now) files)) }
+        → (due : Result (List ℕ) Status) → IsOutcome (map string_bytes words.now) files due
+        → AddsFront (O.written out.old) (O.written out.new) (text_due due) }
 {
     let _ = notes;
     if !is_command(words) {
@@ -121,10 +127,15 @@ pub fn run<F: Folder, O: Sink, N: Sink>(
         return Status::Usage;
     };
     match prepare(alloc, folder, script.as_str(), tables) {
-        Ok(plan) => answer(alloc, &plan, out),
+        Ok(plan) => run_plan(alloc, &plan, out),
         Err(refusal) => refusal,
     }
 }
+
+/// The law that words over files have one outcome. It does nothing.
+pub fn one_outcome()
+    ensures { OneOutcome }
+{}
 
 #[cfg(test)]
 mod tests;

@@ -1,5 +1,7 @@
+//! How a run ends: its status, the stage that it was at, and its exit status.
+
 ghost use Rattle.std.specs.Prelude.{◌≡◌};
-ghost use Rattle.eddyql.specs.Code.{code_of};
+ghost use Rattle.eddyql.specs.Stage.{stage_of, code_of};
 
 pub use sq_parse::ParseFault;
 
@@ -48,20 +50,67 @@ pub enum Status {
     Memory,
 }
 
-impl Status {
-    /// The exit status of the program: 0 done, 2 usage, 3 a fault of the script, 4 a fault of a
-    /// table, 5 a file that isn't there or can't be read, 6 a fault of the output, 9 want of memory.
-    pub fn code(&self) -> u8
-        ensures { result ≡ code_of self.now }
+/// What a run was at when it ended.
+#[derive(Clone, Copy, Debug, PartialEq, Eq)]
+pub enum Stage {
+    /// The words of the command line.
+    Words,
+    /// A file that is loaded.
+    Files,
+    /// The script.
+    Script,
+    /// The form of a table.
+    Tables,
+    /// The columns that a statement names.
+    Columns,
+    /// All of the run, which is done.
+    Run,
+    /// The output.
+    Output,
+    /// The memory, wherever the run was.
+    Memory,
+}
+
+impl Stage {
+    /// The exit status of a run that ends at this stage: 0 where it is done, 2 for the words, 3 for
+    /// the script and its columns, 4 for a table, 5 for a file that isn't there or can't be read, 6
+    /// for the output, 9 for want of memory.
+    pub fn code(self) -> u8
+        ensures { result ≡ code_of self }
     {
         match self {
-            Status::Done => 0,
-            Status::Usage => 2,
-            Status::Script { .. } | Status::Bind { .. } => 3,
-            Status::BadTable { .. } => 4,
-            Status::NotFound { .. } | Status::Read { .. } => 5,
-            Status::Write => 6,
-            Status::Memory => 9,
+            Stage::Run => 0,
+            Stage::Words => 2,
+            Stage::Script | Stage::Columns => 3,
+            Stage::Tables => 4,
+            Stage::Files => 5,
+            Stage::Output => 6,
+            Stage::Memory => 9,
         }
+    }
+}
+
+impl Status {
+    /// What the run was at.
+    pub fn stage(&self) -> Stage
+        ensures { result ≡ stage_of self.now }
+    {
+        match self {
+            Status::Done => Stage::Run,
+            Status::Usage => Stage::Words,
+            Status::Script { .. } => Stage::Script,
+            Status::Bind { .. } => Stage::Columns,
+            Status::BadTable { .. } => Stage::Tables,
+            Status::NotFound { .. } | Status::Read { .. } => Stage::Files,
+            Status::Write => Stage::Output,
+            Status::Memory => Stage::Memory,
+        }
+    }
+
+    /// The exit status of the program.
+    pub fn code(&self) -> u8
+        ensures { result ≡ code_of (stage_of self.now) }
+    {
+        self.stage().code()
     }
 }

@@ -7,7 +7,8 @@ use Rattle.eddyql.specs.Words.{table_of_word}
 use Rattle.eddyql.specs.Outcome.{or_refuse, table_read}
 use Rattle.eddyql.specs.declared.status.Status.TheVariants as status
 use Rattle.eddyql.specs.declared.status.TableFault.TheVariants.{NoHeading}
-use Rattle.eddyql.proofs.OutcomeLemmas.{table_read-loaded, early_table-integers, MayRefuse-same, IsEarly-weaker}
+use Rattle.eddyql.proofs.OutcomeLemmas.{table_read-loaded, early_table-integers}
+use Rattle.eddyql.proofs.StageLemmas.{MayRefuse-same, IsEarly-weaker}
 use Rattle.eddyql.proofs.loading.load_table.Given as given
 use Rattle.eddyql.proofs.loading.load_table.Goals as goal
 

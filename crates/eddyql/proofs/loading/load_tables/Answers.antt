@@ -10,7 +10,8 @@ use Rattle.eddyql.specs.Outcome.{tables_read, table_read, ReachedTable}
 use Rattle.eddyql.specs.Loaded.{IsIntegerTable}
 use Rattle.eddyql.specs.declared.status.FileOf.{FileOf}
 use Rattle.eddyql.specs.declared.status.FileOf.TheVariants as file
-use Rattle.eddyql.proofs.OutcomeLemmas.{tables_read-more, MayRefuse-next, MayRefuse-same, reads_weaker, next_reached, word_told, length-table_words}
+use Rattle.eddyql.proofs.OutcomeLemmas.{tables_read-more, MayRefuse-next, reads_weaker, next_reached, word_told, length-table_words}
+use Rattle.eddyql.proofs.StageLemmas.{MayRefuse-same}
 use Rattle.eddyql.proofs.loading.load_tables.Goals as goal
 
 pub loop-index-init : goal.loop-index-init
