@@ -12,3 +12,5 @@ pub mod NestedLemmas
 mod SampleLemmas
 pub mod AgreeLemmas
 pub mod DueLemmas
+pub mod InOrderLemmas
+pub mod KeyLemmas

@@ -1,5 +1,6 @@
 pub mod Bag
 pub mod Answer
 pub mod Credit
+pub mod Combination
 pub mod Nested
 pub mod Samples

@@ -1,4 +1,4 @@
--- The tables and blocks of the tests.
+-- For the tests alone: their tables and blocks.
 use Rattle.std.specs.Prelude.{ℕ, true, ◌<◌, ◌≤◌, List, [], ◌∷◌, length, map, All, Option, None, codes, pos}
 use Rattle.sq_value.specs.Relation.{Relation}
 use Rattle.sq_value.specs.declared.value.Value.TheVariants.{Int}

@@ -6,9 +6,11 @@
 #![tactic(auto)]
 
 mod combo;
+mod laws;
 mod nested;
 #[cfg(test)]
 mod tests;
 
 pub use combo::{Built, Combo};
-pub use nested::{bag_law, plain};
+pub use laws::{answer_laws, bag_law, credit_law};
+pub use nested::plain;

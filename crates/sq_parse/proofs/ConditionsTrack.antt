@@ -13,7 +13,7 @@ use Rattle.sq_parse.specs.Reading as reading
 use Rattle.sq_parse.specs.Reading.{Parser, ◌<$>◌, ◌<+>◌}
 use Rattle.sq_parse.specs.Grammar as g
 use Rattle.sq_parse.specs.Grammar.{Limits, shipped}
-use Rattle.sq_parse.specs.Parse.{unlimited}
+use Rattle.sq_parse.specs.Spelling.{unlimited}
 use Rattle.sq_parse.specs.Reader as read
 use Rattle.sq_parse.proofs.Marks.{apart_at}
 use Rattle.sq_parse.proofs.Exact.{Full-after}

@@ -16,8 +16,9 @@ use Rattle.sq_parse.specs.Grammar as g
 use Rattle.sq_parse.specs.Grammar.{shipped}
 use Rattle.sq_parse.specs.Reading.{Outcome}
 use Rattle.sq_parse.specs.Reader as read
-use Rattle.sq_parse.specs.Parse.{Spelled, Spells, unlimited, place_in, fault_at, answer_of, parsed, Answers}
-use Rattle.sq_parse.specs.Fault.{Begins, Shallow, Short, Among, up_to, IsUnexpected, IsUnfinished, IsOverLimit, IsLarge, last, is_large, HasFault, place_of, number_of, IsNoLater, IsFault}
+use Rattle.sq_parse.specs.Spelling.{Spelled, Spells, unlimited}
+use Rattle.sq_parse.specs.Parse.{place_in, fault_at, answer_of, parsed, Answers}
+use Rattle.sq_parse.specs.Fault.{Begins, Shallow, Short, Among, up_to, IsUnexpected, IsUnfinished, IsOverLimit, IsLarge, last, is_large, HasFault, fault_place, number_of, IsNoLater, IsFault}
 use Rattle.sq_parse.proofs.Exact.{Err-Ok}
 use Rattle.sq_parse.proofs.StatementsExact.{script_again}
 use Rattle.sq_parse.proofs.ParseLemmas.{spelled_by}
@@ -123,7 +124,7 @@ rank_many stop.TooDeep never = omega arith
 rank_many stop.TooManyStatements never = omega arith
 
 abbrev Comes : Stop → ℕ → ParseFault → Type 0
-Comes s at other = (at < place_of other) ⊎ ((at ≡ place_of other) × (rank s ≤ number_of other))
+Comes s at other = (at < fault_place other) ⊎ ((at ≡ fault_place other) × (rank s ≤ number_of other))
 
 comes_first : (s : Stop) (at : ℕ) (other : ParseFault) → s ≢ stop.Memory → Comes s at other → IsNoLater (fault_at s at) other
 unfolding rank
@@ -365,7 +366,7 @@ module _ (z : Text) (valid : IsUtf8 z) where
   fault_from (suc (suc (suc (suc (suc zero))))) p = fault.TooManyStatements p
   fault_from (suc (suc (suc (suc (suc (suc n)))))) p = fault.Memory
 
-  from_parts : (f : ParseFault) → fault_from (number_of f) (place_of f) ≡ f
+  from_parts : (f : ParseFault) → fault_from (number_of f) (fault_place f) ≡ f
   unfolding fault_from
   from_parts (fault.NotUtf8 p) = refl
   from_parts (fault.Syntax p) = refl
@@ -374,7 +375,7 @@ module _ (z : Text) (valid : IsUtf8 z) where
   from_parts (fault.TooManyStatements p) = refl
   from_parts fault.Memory = refl
 
-  same_parts : (x y : ParseFault) → IsNoLater x y → IsNoLater y x → (number_of x ≡ number_of y) × (place_of x ≡ place_of y)
+  same_parts : (x y : ParseFault) → IsNoLater x y → IsNoLater y x → (number_of x ≡ number_of y) × (fault_place x ≡ fault_place y)
   same_parts x y (inl a) (inl b) = absurd (omega (arith, a, b))
   same_parts x y (inl a) (inr b) = absurd (omega (arith, a, b.0))
   same_parts x y (inr a) (inl b) = absurd (omega (arith, a.0, b))
@@ -383,7 +384,7 @@ module _ (z : Text) (valid : IsUtf8 z) where
   one_fault : (x y : ParseFault) → IsFault z x → IsFault z y → x ≡ y
   one_fault x y h i =
       let p = same_parts x y (h.first y i.has) (i.first x h.has) in
-      sym (from_parts x) ∙ (ap (λ n. fault_from n (place_of x)) p.0 ∙ (ap (λ a. fault_from (number_of y) a) p.1 ∙ from_parts y))
+      sym (from_parts x) ∙ (ap (λ n. fault_from n (fault_place x)) p.0 ∙ (ap (λ a. fault_from (number_of y) a) p.1 ∙ from_parts y))
 
   -- ---- so reading answers the first fault
 

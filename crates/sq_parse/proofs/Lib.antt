@@ -26,3 +26,4 @@ pub mod ScriptsTrack
 pub mod ScriptsFail
 pub mod PlaceLemmas
 pub mod FirstFault
+pub mod OneReading

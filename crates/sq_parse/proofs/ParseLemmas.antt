@@ -7,7 +7,8 @@ use Rattle.sq_parse.specs.Tok.{Tok, toks}
 use Rattle.sq_parse.specs.Grammar.{shipped}
 use Rattle.sq_parse.specs.Reading.{Outcome}
 use Rattle.sq_parse.specs.Reader as read
-use Rattle.sq_parse.specs.Parse.{Spelled, answer_of, parsed, Answers}
+use Rattle.sq_parse.specs.Spelling.{Spelled}
+use Rattle.sq_parse.specs.Parse.{answer_of, parsed, Answers}
 use Rattle.sq_parse.proofs.Shrinking.{nested}
 use Rattle.sq_parse.proofs.StatementsExact.{script_takes, script_again}
 

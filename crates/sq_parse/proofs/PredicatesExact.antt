@@ -175,13 +175,13 @@ module _ (limits : Limits) where
   unfolding same
   negated f fails = maybe (is k.Not) f (token (is k.Not) refl) refl fails (all_within f)
 
-  compared : (x : Operand) → Exact (compared_rest x) (read.compared limits x) is_comparison ends_operand
-  unfolding read.compared same
-  compared x = gives (λ p. t.Compare (begin_of x) x (comparison_by p.0.mark) p.1) (followed (token is_comparison refl) (operand limits) refl)
+  comparison : (x : Operand) → Exact (compared_rest x) (read.comparison limits x) is_comparison ends_operand
+  unfolding read.comparison same
+  comparison x = gives (λ p. t.Compare (begin_of x) x (comparison_by p.0.mark) p.1) (followed (token is_comparison refl) (operand limits) refl)
 
-  is_null : (x : Operand) → Exact (null_rest x) (read.is_null limits x) (is k.Is) anything
-  unfolding read.is_null same
-  is_null x = gives (λ p. t.IsNull (begin_of x) (is_some p.0) x) (after k.Is refl (followed (negated (is k.Null) refl) (token (is k.Null) refl) refl))
+  null_test : (x : Operand) → Exact (null_rest x) (read.null_test limits x) (is k.Is) anything
+  unfolding read.null_test same
+  null_test x = gives (λ p. t.IsNull (begin_of x) (is_some p.0) x) (after k.Is refl (followed (negated (is k.Null) refl) (token (is k.Null) refl) refl))
 
   between : (x : Operand) (n : Option Tok) → Exact (between_rest x n) (read.between limits x (is_some n)) (is k.Between) ends_operand
   unfolding read.between same
@@ -207,7 +207,7 @@ module _ (limits : Limits) where
 
   behind_subject : (x : Operand) → Exact (subject_rest x) (read.behind_subject limits x) begins_tail ends_operand
   unfolding read.behind_subject same
-  behind_subject x = weaker begins_tail ends_operand (either is_comparison (compared x) (either (is k.Is) (is_null x) (ranged x) refl refl) refl refl) refl refl
+  behind_subject x = weaker begins_tail ends_operand (either is_comparison (comparison x) (either (is k.Is) (null_test x) (ranged x) refl refl) refl refl) refl refl
 
   module _ (nested : (n : ℕ) → limits.narrow n ≡ true → limits.wide n ≡ true) where
     call : Exact (g.call limits) (read.call limits) is_name anything

@@ -13,7 +13,7 @@ use Rattle.sq_parse.specs.Reading as reading
 use Rattle.sq_parse.specs.Reading.{Parser, ◌>>=◌, ◌<$>◌, ◌<+>◌}
 use Rattle.sq_parse.specs.Grammar as g
 use Rattle.sq_parse.specs.Grammar.{Limits, shipped}
-use Rattle.sq_parse.specs.Parse.{unlimited}
+use Rattle.sq_parse.specs.Spelling.{unlimited}
 use Rattle.sq_parse.specs.Reader as read
 use Rattle.sq_parse.proofs.Marks.{all_within, within_self}
 use Rattle.sq_parse.proofs.Exact.{Full, Full-gives, Full-left, Full-after, Chain}
@@ -57,13 +57,13 @@ module _ (C : Faults) where
   unfolding same
   negated = maybe (is k.Not) refl (plainly (token C (is k.Not) unstarred k.Not refl refl refl refl))
 
-  compared : (x : Operand) → Tracks (compared_rest shipped x) (compared_rest unlimited x) (read.compared shipped x) (read.compared unlimited x) C unstarred unstarred
-  unfolding read.compared same
-  compared x = gives (λ p. t.Compare (begin_of x) x (comparison_by p.0.mark) p.1) (plainly (followed (token C is_comparison unstarred k.Equal refl refl refl refl) operand refl))
+  comparison : (x : Operand) → Tracks (compared_rest shipped x) (compared_rest unlimited x) (read.comparison shipped x) (read.comparison unlimited x) C unstarred unstarred
+  unfolding read.comparison same
+  comparison x = gives (λ p. t.Compare (begin_of x) x (comparison_by p.0.mark) p.1) (plainly (followed (token C is_comparison unstarred k.Equal refl refl refl refl) operand refl))
 
-  is_null : (x : Operand) → Tracks (null_rest shipped x) (null_rest unlimited x) (read.is_null shipped x) (read.is_null unlimited x) C unstarred unstarred
-  unfolding read.is_null same
-  is_null x = gives (λ p. t.IsNull (begin_of x) (is_some p.0) x) (plainly (after k.Is refl refl refl refl (followed negated (token C (is k.Null) unstarred k.Null refl refl refl refl) refl)))
+  null_test : (x : Operand) → Tracks (null_rest shipped x) (null_rest unlimited x) (read.null_test shipped x) (read.null_test unlimited x) C unstarred unstarred
+  unfolding read.null_test same
+  null_test x = gives (λ p. t.IsNull (begin_of x) (is_some p.0) x) (plainly (after k.Is refl refl refl refl (followed negated (token C (is k.Null) unstarred k.Null refl refl refl refl) refl)))
 
   between : (x : Operand) (n : Option Tok) → Tracks (between_rest shipped x n) (between_rest unlimited x n) (read.between shipped x (is_some n)) (read.between unlimited x (is_some n)) C unstarred unstarred
   unfolding read.between same
@@ -83,7 +83,7 @@ module _ (C : Faults) where
 
   behind_subject : (x : Operand) → Tracks (subject_rest shipped x) (subject_rest unlimited x) (read.behind_subject shipped x) (read.behind_subject unlimited x) C unstarred unstarred
   unfolding read.behind_subject
-  behind_subject x = either is_comparison (compared x) (either (is k.Is) (is_null x) (ranged x))
+  behind_subject x = either is_comparison (comparison x) (either (is k.Is) (null_test x) (ranged x))
 
   subjects : Tracks (with_subject shipped) (with_subject unlimited) (read.operand shipped >>= read.behind_subject shipped) (read.operand unlimited >>= read.behind_subject unlimited) C unstarred unstarred
   subjects = chained operand behind_subject (within_self unstarred)

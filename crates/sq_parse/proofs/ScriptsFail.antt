@@ -9,7 +9,7 @@ use Rattle.sq_parse.specs.Mark.{is}
 use Rattle.sq_parse.specs.Tok.{Tok, head, next, behind, done}
 use Rattle.sq_parse.specs.Grammar as g
 use Rattle.sq_parse.specs.Grammar.{Limits, shipped}
-use Rattle.sq_parse.specs.Parse.{unlimited}
+use Rattle.sq_parse.specs.Spelling.{unlimited}
 use Rattle.sq_parse.specs.Reader as read
 use Rattle.sq_parse.specs.Fault.{last}
 use Rattle.sq_parse.proofs.Exact.{Ok-value, Err-Ok, if_ok, and_then_ok}

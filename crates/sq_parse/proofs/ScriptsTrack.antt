@@ -14,7 +14,7 @@ use Rattle.sq_parse.specs.Reading as reading
 use Rattle.sq_parse.specs.Reading.{Parser, Outcome, ◌>>=◌, ◌<$>◌, ◌<+>◌}
 use Rattle.sq_parse.specs.Grammar as g
 use Rattle.sq_parse.specs.Grammar.{shipped}
-use Rattle.sq_parse.specs.Parse.{unlimited}
+use Rattle.sq_parse.specs.Spelling.{unlimited}
 use Rattle.sq_parse.specs.Reader as read
 use Rattle.sq_parse.proofs.Marks.{apart_at, within_self}
 use Rattle.sq_parse.proofs.Exact.{Chain, Err-Ok}

@@ -8,7 +8,7 @@ use Rattle.sq_parse.specs.Rules as rule
 use Rattle.sq_parse.specs.Rules.{Then, ◌⊗◌, ◌⊕◌, ◌⊛◌}
 use Rattle.sq_parse.specs.Grammar as g
 use Rattle.sq_parse.specs.Grammar.{Limits, shipped}
-use Rattle.sq_parse.specs.Parse.{unlimited}
+use Rattle.sq_parse.specs.Spelling.{unlimited}
 use Rattle.sq_parse.specs.Reader as read
 use Rattle.sq_parse.proofs.Marks.{within_self}
 use Rattle.sq_parse.proofs.Loops.{Shrinks, Shrinks-exact}

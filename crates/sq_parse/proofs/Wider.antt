@@ -10,7 +10,7 @@ use Rattle.sq_parse.specs.Rules as rule
 use Rattle.sq_parse.specs.Rules.{Then, ◌⊗◌, ◌⊕◌, ◌⊛◌}
 use Rattle.sq_parse.specs.Grammar as g
 use Rattle.sq_parse.specs.Grammar.{Limits}
-use Rattle.sq_parse.specs.Parse.{unlimited, OneTree}
+use Rattle.sq_parse.specs.Spelling.{unlimited, OneTree}
 use Rattle.sq_parse.proofs.StatementsExact.{one_script}
 
 abbrev pub Sub : {A : Type 0} → (List Tok → A → Type 0) → (List Tok → A → Type 0) → Type 0

@@ -1,4 +1,4 @@
--- What a cursor shows: the tokens that are left.
+-- For the proofs of the parser alone: what a cursor shows, the tokens that are left.
 use Rattle.std.specs.Prelude.{◌≡◌, ◌+◌, ◌<◌, ◌≤◌, List, [], ◌∷◌, length, take, Option, Some, None, MatchOption}
 use Rattle.sq_parse.specs.declared.piece.Drawn.{Drawn}
 use Rattle.sq_parse.specs.declared.mark.Mark.TheVariants as k
@@ -20,5 +20,6 @@ left_in c = drawn_toks c.ahead
 abbrev pub IsSound : Drawn → Type 0
 IsSound d = IsCut d.form d.text.now d.length × (1 ≤ d.length) × (d.length ≤ length d.text.now) × (d.at + d.length + length d.rest.now < 4294967295)
 
-abbrev pub IsReady : Inside → Type 0
-IsReady c = MatchOption c.ahead (c.mark ≡ k.End) (λ d. IsSound d × (c.mark ≡ mark_of d.form (take d.length d.text.now)))
+-- and its mark is known
+abbrev pub ShowsAhead : Inside → Type 0
+ShowsAhead c = MatchOption c.ahead (c.mark ≡ k.End) (λ d. IsSound d × (c.mark ≡ mark_of d.form (take d.length d.text.now)))

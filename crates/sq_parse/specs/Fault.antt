@@ -1,5 +1,5 @@
--- Why a text is no script, and where: the faults of a text, and the first of them.
-use Rattle.std.specs.Prelude.{◌≡◌, ◌⊎◌, ◌≤◌, ◌<◌, ℕ, Bool, ◌&&◌, ◌||◌, nat_lt, true, List, [], ◌∷◌, ◌++◌, length, Err, ◌↔◌}
+-- Why a text is no script, and where: the faults of a text, the first of them, and what a text reads as.
+use Rattle.std.specs.Prelude.{◌≡◌, ◌⊎◌, ◌≤◌, ◌<◌, ℕ, Bool, ◌&&◌, ◌||◌, nat_lt, true, List, [], ◌∷◌, ◌++◌, length, Result, Ok, Err}
 use Rattle.std.specs.Str.{IsUtf8}
 use Rattle.std.specs.Str.Lossy.{utf8_valid_len}
 use Rattle.sq_parse.specs.declared.mark.Mark.{Mark}
@@ -12,7 +12,7 @@ use Rattle.sq_parse.specs.Mark.{is}
 use Rattle.sq_parse.specs.Tok.{Tok, toks, next}
 use Rattle.sq_parse.specs.Rules.{Rule}
 use Rattle.sq_parse.specs.Grammar as g
-use Rattle.sq_parse.specs.Parse.{unlimited, Spells, parsed}
+use Rattle.sq_parse.specs.Spelling.{Spelled, unlimited, Spells}
 
 -- some script of a kind begins with these tokens
 abbrev pub Begins : Rule Script → List Tok → Type 0
@@ -84,13 +84,13 @@ HasFault z (fault.TooManyStatements at) = IsUtf8 z × IsOverLimit Short (toks 0 
 HasFault z fault.Memory = ⊥
 
 -- the place of a fault
-abbrev pub place_of : ParseFault → ℕ
-place_of (fault.NotUtf8 at) = at
-place_of (fault.Syntax at) = at
-place_of (fault.NumberTooLarge at) = at
-place_of (fault.TooDeep at) = at
-place_of (fault.TooManyStatements at) = at
-place_of fault.Memory = 0
+abbrev pub fault_place : ParseFault → ℕ
+fault_place (fault.NotUtf8 at) = at
+fault_place (fault.Syntax at) = at
+fault_place (fault.NumberTooLarge at) = at
+fault_place (fault.TooDeep at) = at
+fault_place (fault.TooManyStatements at) = at
+fault_place fault.Memory = 0
 
 -- the number of a fault, which decides at one place
 abbrev pub number_of : ParseFault → ℕ
@@ -103,13 +103,18 @@ number_of fault.Memory = 6
 
 -- a fault stands before another, or is at its place and of no greater number
 abbrev pub IsNoLater : ParseFault → ParseFault → Type 0
-IsNoLater f other = (place_of f < place_of other) ⊎ ((place_of f ≡ place_of other) × (number_of f ≤ number_of other))
+IsNoLater f other = (fault_place f < fault_place other) ⊎ ((fault_place f ≡ fault_place other) × (number_of f ≤ number_of other))
 
 -- the fault of a text: the one with the least place, and at one place the one with the lower number
 pub record IsFault (z : Text) (f : ParseFault) : Type 0 where
   pub has : HasFault z f
   pub first : (other : ParseFault) → HasFault z other → IsNoLater f other
 
--- reading a text of UTF-8 from left to right answers a fault exactly where it is the fault of the text
-abbrev pub FaultIsRead : Type 0
-FaultIsRead = (z : Text) → IsUtf8 z → (f : ParseFault) → ((parsed z ≡ Err f) ↔ IsFault z f)
+-- what a text reads as: the script that it spells, or its fault
+abbrev pub ReadsAs : Text → Result Script ParseFault → Type 0
+ReadsAs z (Ok s) = IsUtf8 z × Spelled z s
+ReadsAs z (Err f) = IsFault z f
+
+-- each text reads as one thing
+abbrev pub OneReading : Type 0
+OneReading = (z : Text) → (r : Result Script ParseFault) × ReadsAs z r × ((other : Result Script ParseFault) → ReadsAs z other → other ≡ r)

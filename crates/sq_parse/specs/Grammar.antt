@@ -100,8 +100,8 @@ module _ (limits : Limits) where
       ⊕ (λ c. sum_of None (column_term c None) []) ⊛ column)
 
   -- operand cmp operand
-  abbrev pub compared : Rule Tree
-  compared = (λ p. t.Compare (begin_of p.0) p.0 (comparison_by p.1.0.mark) p.1.1) ⊛ (operand ⊗ (token is_comparison ⊗ operand))
+  abbrev pub comparison : Rule Tree
+  comparison = (λ p. t.Compare (begin_of p.0) p.0 (comparison_by p.1.0.mark) p.1.1) ⊛ (operand ⊗ (token is_comparison ⊗ operand))
 
   -- operand [ NOT ] BETWEEN operand AND operand
   abbrev pub between : Rule Tree
@@ -114,15 +114,15 @@ module _ (limits : Limits) where
       ⊛ (operand ⊗ (optional (mark k.Not) ⊗ after k.In (enclosed (list_of k.Comma operand))))
 
   -- operand IS [ NOT ] NULL
-  abbrev pub is_null : Rule Tree
-  is_null = (λ p. t.IsNull (begin_of p.0) (is_some p.1.0) p.0) ⊛ (operand ⊗ after k.Is (optional (mark k.Not) ⊗ mark k.Null))
+  abbrev pub null_test : Rule Tree
+  null_test = (λ p. t.IsNull (begin_of p.0) (is_some p.1.0) p.0) ⊛ (operand ⊗ after k.Is (optional (mark k.Not) ⊗ mark k.Null))
 
   -- name "(" simple { "," simple } ")"
   abbrev pub call : Rule Tree
   call = (λ p. t.Call p.0 p.1) ⊛ (name ⊗ enclosed (list_of k.Comma simple))
 
   abbrev pub predicate : Rule Tree
-  predicate = compared ⊕ between ⊕ within ⊕ is_null ⊕ call
+  predicate = comparison ⊕ between ⊕ within ⊕ null_test ⊕ call
 
   -- "(" cond ")" | predicate
   abbrev pub primary : Rule Tree → Rule Tree

@@ -9,6 +9,7 @@ pub mod Rules
 pub mod Reading
 pub mod Tree
 pub mod Grammar
+pub mod Spelling
+pub mod Fault
 pub mod Reader
 pub mod Parse
-pub mod Fault

@@ -1,5 +1,7 @@
--- What the parser answers.
-use Rattle.std.specs.Prelude.{◌≡◌, ◌≢◌, ◌≤◌, ℕ, true, List, [], ◌∷◌, length, Result, Ok, Err}
+-- For the laws and proofs of the parser: what reading a text from left to right gives, and that this is what its tokens
+-- spell, or its fault.
+use Rattle.std.specs.Prelude.{◌≡◌, ◌≢◌, ◌↔◌, ℕ, List, [], ◌∷◌, length, Result, Ok, Err}
+use Rattle.std.specs.Str.{IsUtf8}
 use Rattle.sq_parse.specs.declared.stop.Stop.{Stop}
 use Rattle.sq_parse.specs.declared.stop.Stop.TheVariants as stop
 use Rattle.sq_parse.specs.declared.parser.ParseFault.{ParseFault}
@@ -7,21 +9,11 @@ use Rattle.sq_parse.specs.declared.parser.ParseFault.TheVariants as fault
 use Rattle.sq_parse.specs.declared.tree.Script.{Script}
 use Rattle.sq_parse.specs.Form.{Text}
 use Rattle.sq_parse.specs.Tok.{Tok, toks}
-use Rattle.sq_parse.specs.Grammar as g
-use Rattle.sq_parse.specs.Grammar.{Limits, shipped}
+use Rattle.sq_parse.specs.Grammar.{shipped}
+use Rattle.sq_parse.specs.Spelling.{Spelled}
+use Rattle.sq_parse.specs.Fault.{IsFault}
 use Rattle.sq_parse.specs.Reading.{Outcome}
 use Rattle.sq_parse.specs.Reader as read
-
--- the tokens of a text spell a script, within the limits: numbers, 64 open parentheses and NOTs, 64 statements
-abbrev pub Spelled : Text → Script → Type 0
-Spelled z s = g.script shipped 64 (toks 0 z) s × (length s.statements ≤ 64)
-
--- without the limits
-abbrev pub unlimited : Limits
-unlimited = record { narrow = λ n. true; wide = λ n. true }
-
-abbrev pub Spells : List Tok → Script → Type 0
-Spells ts s = (d : ℕ) × g.script unlimited d ts s
 
 -- the place where reading stopped: that of the next token, or the end
 abbrev pub place_in : ℕ → List Tok → ℕ
@@ -48,6 +40,10 @@ abbrev pub Answers : Text → Result Script ParseFault → Type 0
 Answers z (Ok s) = parsed z ≡ Ok s
 Answers z (Err f) = f ≢ fault.Memory → parsed z ≡ Err f
 
--- a list of tokens has at most one tree, whatever the limits
-abbrev pub OneTree : Type 0
-OneTree = (ts : List Tok) (x y : Script) → Spells ts x → Spells ts y → x ≡ y
+-- reading a text answers a tree exactly where the tokens spell it
+abbrev pub TreeIsRead : Type 0
+TreeIsRead = (z : Text) (s : Script) → ((parsed z ≡ Ok s) ↔ Spelled z s)
+
+-- reading a text of UTF-8 answers a fault exactly where it is the fault of the text
+abbrev pub FaultIsRead : Type 0
+FaultIsRead = (z : Text) → IsUtf8 z → (f : ParseFault) → ((parsed z ≡ Err f) ↔ IsFault z f)

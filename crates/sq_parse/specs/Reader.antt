@@ -1,4 +1,4 @@
--- What the parser's functions read, rule by rule.
+-- For the laws and proofs of the parser: what its functions read, each by the name of its rule of the grammar.
 use Rattle.std.specs.Prelude.{ℕ, ℤ, pos, nat_le, zero, suc, Bool, ◌&&◌, ◌||◌, if◌then◌else◌, List, [], ◌∷◌, Option, Some, None, is_some, option_map, unwrap_or, false, Ok, Err}
 use Rattle.sq_value.specs.declared.value.Truth.{Truth}
 use Rattle.sq_parse.specs.declared.mark.Mark.{Mark}
@@ -161,11 +161,11 @@ module _ (limits : Limits) where
   call = (λ p. t.Call p.0 p.1) <$> (name <+> enclosed simples)
 
   -- what comes behind the subject of a predicate
-  unfoldable pub compared : Operand → Parser Tree
-  compared x = (λ p. t.Compare (begin_of x) x (comparison_by p.0.mark) p.1) <$> (token is_comparison <+> operand)
+  unfoldable pub comparison : Operand → Parser Tree
+  comparison x = (λ p. t.Compare (begin_of x) x (comparison_by p.0.mark) p.1) <$> (token is_comparison <+> operand)
 
-  unfoldable pub is_null : Operand → Parser Tree
-  is_null x = (λ p. t.IsNull (begin_of x) (is_some p.0) x) <$> after k.Is (optional (is k.Not) (mark k.Not) <+> mark k.Null)
+  unfoldable pub null_test : Operand → Parser Tree
+  null_test x = (λ p. t.IsNull (begin_of x) (is_some p.0) x) <$> after k.Is (optional (is k.Not) (mark k.Not) <+> mark k.Null)
 
   unfoldable pub between : Operand → Bool → Parser Tree
   between x negated = (λ p. t.Between (begin_of x) negated x p.0 p.1) <$> (after k.Between operand <+> after k.And operand)
@@ -177,7 +177,7 @@ module _ (limits : Limits) where
   ranged x = optional (is k.Not) (mark k.Not) >>= (λ n. choose (is k.Between) (between x (is_some n)) (within x (is_some n)))
 
   unfoldable pub behind_subject : Operand → Parser Tree
-  behind_subject x = choose is_comparison (compared x) (choose (is k.Is) (is_null x) (ranged x))
+  behind_subject x = choose is_comparison (comparison x) (choose (is k.Is) (null_test x) (ranged x))
 
   unfoldable pub predicate : Parser Tree
   predicate = λ ts. if begins_call ts then call ts else (operand >>= behind_subject) ts

@@ -1,4 +1,4 @@
--- What reading functions are made of. One answers what it read and the tokens that are left, or why
+-- For the laws and proofs of the parser: what reading functions are made of. One answers what it read and the tokens that are left, or why
 -- it stopped and the tokens from there on.
 use Rattle.std.specs.Prelude.{◌≡◌, ◌≢◌, Bool, true, false, if◌then◌else◌, ℕ, zero, suc, List, [], ◌∷◌, ◌++◌, length, drop, Option, Some, None, Result, Ok, Err}
 use Rattle.sq_parse.specs.declared.mark.Mark.{Mark}

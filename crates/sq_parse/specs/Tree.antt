@@ -32,8 +32,8 @@ column_of first None = record { alias = None; column = first }
 column_of first (Some second) = record { alias = Some first; column = second }
 
 -- the place of a column's first token
-abbrev pub place_of : ColRef → ℕ
-place_of c = (unwrap_or c.alias c.column).at
+abbrev pub column_place : ColRef → ℕ
+column_place c = (unwrap_or c.alias c.column).at
 
 -- ---- operands
 
@@ -41,7 +41,7 @@ abbrev pub number_term : Tok → Option ColRef → RawTerm
 number_term n column = record { at = n.at; negative = false; number = Some (pos n.number); column = column }
 
 abbrev pub column_term : ColRef → Option Tok → RawTerm
-column_term c factor = record { at = place_of c; negative = false; number = option_map (λ n. pos n.number) factor; column = Some c }
+column_term c factor = record { at = column_place c; negative = false; number = option_map (λ n. pos n.number) factor; column = Some c }
 
 -- a term behind a sign
 abbrev pub signed : Tok → RawTerm → RawTerm

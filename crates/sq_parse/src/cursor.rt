@@ -31,11 +31,11 @@ impl<'a> Model for Cursor<'a> {
 
     ghost Value = { List Tok };
 
-    ghost use Rattle.sq_parse.specs.Cursor.{left_in, IsReady};
+    ghost use Rattle.sq_parse.specs.Cursor.{left_in, ShowsAhead};
 
     ghost view = { left_in };
 
-    ghost invariant = { IsReady };
+    ghost invariant = { ShowsAhead };
 }
 
 fn mark_ahead(ahead: Option<Drawn<'_>>) -> Mark

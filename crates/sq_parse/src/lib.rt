@@ -17,7 +17,7 @@ mod stop;
 mod token;
 mod tree;
 
-pub use parser::{ParseFault, first_fault, one_tree, parse};
+pub use parser::{ParseFault, as_read, one_reading, one_tree, parse};
 pub use token::{Span, Token, TokenKind, tokens};
 pub use tree::{
     ColRef, Item, Items, Name, Operand, OrderItem, RawTerm, Script, Source, Statement, Tree,

@@ -65,8 +65,8 @@ fn number_led(alloc: Global, tokens: &mut Cursor<'_>) -> Result<RawTerm, Stop>
     })
 }
 
-fn place_of(column: &ColRef) -> u32
-    ensures { result ≡ tree.place_of column.now }
+fn column_place(column: &ColRef) -> u32
+    ensures { result ≡ tree.column_place column.now }
 {
     match &column.alias {
         Some(alias) => alias.at,
@@ -80,7 +80,7 @@ fn column_led(alloc: Global, tokens: &mut Cursor<'_>) -> Result<RawTerm, Stop>
     ensures { Reads (spec.column_led shipped tokens.old) result tokens.new }
 {
     let column = column(alloc, tokens)?;
-    let at = place_of(&column);
+    let at = column_place(&column);
     let mut factor = None;
     if tokens.eat(Mark::Star) {
         factor = Some(number(tokens, NARROW)?);
@@ -241,7 +241,7 @@ fn simple_column(alloc: Global, tokens: &mut Cursor<'_>) -> Result<Operand, Stop
     ensures { Reads (spec.simple_column tokens.old) result tokens.new }
 {
     let column = column(alloc, tokens)?;
-    let at = place_of(&column);
+    let at = column_place(&column);
     let terms = only(
         alloc,
         RawTerm {

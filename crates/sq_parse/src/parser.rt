@@ -4,7 +4,8 @@ ghost use Rattle.std.specs.Prelude.{◌≡◌, ◌≢◌, ◌⊎◌, ◌<◌, le
 ghost use Rattle.std.specs.Str.{IsUtf8};
 ghost use Rattle.std.specs.Str.Lossy.{utf8_valid_len};
 ghost use Rattle.sq_parse.specs.Parse as spec;
-ghost use Rattle.sq_parse.specs.Fault.{IsFault, FaultIsRead};
+ghost use Rattle.sq_parse.specs.Spelling.{Spelled, OneTree};
+ghost use Rattle.sq_parse.specs.Fault.{IsFault, OneReading};
 ghost use Rattle.sq_parse.specs.declared.tree.Script.{Script};
 
 use crate::cursor::Cursor;
@@ -72,7 +73,7 @@ fn parse_text(alloc: Global, text: &str) -> Result<Script, ParseFault>
 /// beside its own, in three pieces, so 64 MiB of columns of one letter take about 4.5 GB.
 ///
 /// # Errors
-/// `NotUtf8`: exactly where the text isn't UTF-8, at the end of its longest front that is. Otherwise
+/// `NotUtf8`: exactly where the text isn't UTF-8, at the end of its longest prefix that is. Otherwise
 /// the fault with the least place, and at one place the first of [`ParseFault`]'s variants; or
 /// `Memory`.
 ///
@@ -87,8 +88,8 @@ fn parse_text(alloc: Global, text: &str) -> Result<Script, ParseFault>
 pub fn parse(alloc: Global, text: &[u8]) -> Result<Script, ParseFault>
     requires { length text.now < 4294967295 }
     ensures utf8 { IfOk result (λ s. IsUtf8 text.now) }
-    ensures spelled { IfOk result (λ s. spec.Spelled text.now s) }
-    ensures every { (s : Script) → IsUtf8 text.now → spec.Spelled text.now s → MatchResult result (λ found. found ≡ s) (λ f. f ≡ ParseFault.Memory) }
+    ensures spelled { IfOk result (λ s. Spelled text.now s) }
+    ensures every { (s : Script) → IsUtf8 text.now → Spelled text.now s → MatchResult result (λ found. found ≡ s) (λ f. f ≡ ParseFault.Memory) }
     ensures fault { IfErr result (λ f. f ≢ ParseFault.Memory → IsFault text.now f) }
     ensures every_fault { (f : ParseFault) → IsFault text.now f → MatchResult result (λ s. ⊥) (λ found. (found ≡ f) ⊎ (found ≡ ParseFault.Memory)) }
     ensures not_utf8 { (IsUtf8 text.now → ⊥) → result ≡ Err (ParseFault.NotUtf8 (utf8_valid_len text.now)) }
@@ -104,11 +105,20 @@ pub fn parse(alloc: Global, text: &[u8]) -> Result<Script, ParseFault>
 
 /// The law that a list of tokens has at most one tree, within the limits or not. It does nothing.
 pub fn one_tree()
-    ensures { spec.OneTree }
+    ensures { OneTree }
 {}
 
-/// The law that reading a text of UTF-8 from left to right stops at its first fault, and at no other.
-/// It does nothing.
-pub fn first_fault()
-    ensures { FaultIsRead }
+/// The law that each text reads as one thing: as the script that it spells, or as its fault. It
+/// does nothing.
+pub fn one_reading()
+    ensures { OneReading }
+{}
+
+/// The laws that what reading from left to right gives is what the grammar says. It does nothing.
+///
+/// Reading answers a tree exactly where the tokens spell it, `tree`, and of a text of UTF-8 a fault
+/// exactly where that is the text's, `fault`.
+pub fn as_read()
+    ensures tree { spec.TreeIsRead }
+    ensures fault { spec.FaultIsRead }
 {}

@@ -78,9 +78,9 @@ fn comparison_by(mark: Mark) -> Cmp
     }
 }
 
-#[tactic(auto, unfolding(crate::specs::Reader::compared))]
-fn compared(alloc: Global, tokens: &mut Cursor<'_>, left: Operand) -> Result<Tree, Stop>
-    ensures { Reads (spec.compared shipped left tokens.old) result tokens.new }
+#[tactic(auto, unfolding(crate::specs::Reader::comparison))]
+fn comparison(alloc: Global, tokens: &mut Cursor<'_>, left: Operand) -> Result<Tree, Stop>
+    ensures { Reads (spec.comparison shipped left tokens.old) result tokens.new }
 {
     let mark = tokens.peek();
     if !is_comparison(mark) {
@@ -96,9 +96,9 @@ fn compared(alloc: Global, tokens: &mut Cursor<'_>, left: Operand) -> Result<Tre
     })
 }
 
-#[tactic(auto, unfolding(crate::specs::Reader::is_null))]
-fn is_null(tokens: &mut Cursor<'_>, subject: Operand) -> Result<Tree, Stop>
-    ensures { Reads (spec.is_null shipped subject tokens.old) result tokens.new }
+#[tactic(auto, unfolding(crate::specs::Reader::null_test))]
+fn null_test(tokens: &mut Cursor<'_>, subject: Operand) -> Result<Tree, Stop>
+    ensures { Reads (spec.null_test shipped subject tokens.old) result tokens.new }
 {
     tokens.expect(Mark::Is)?;
     let negated = tokens.eat(Mark::Not);
@@ -171,9 +171,9 @@ fn behind_subject(alloc: Global, tokens: &mut Cursor<'_>, subject: Operand) -> R
     ensures { Reads (spec.behind_subject shipped subject tokens.old) result tokens.new }
 {
     if is_comparison(tokens.peek()) {
-        compared(alloc, tokens, subject)
+        comparison(alloc, tokens, subject)
     } else if tokens.sees(Mark::Is) {
-        is_null(tokens, subject)
+        null_test(tokens, subject)
     } else {
         ranged(alloc, tokens, subject)
     }
