@@ -5,7 +5,7 @@ from collections import namedtuple
 
 Definition = namedtuple("Definition", "crate module name kind file line comment")
 Clause = namedtuple("Clause", "kind name text")
-Function = namedtuple("Function", "crate module owner name file line is_public clauses words aliases attributes")
+Function = namedtuple("Function", "crate module owner name file line is_public has_body clauses words aliases attributes")
 
 NAME = r"[^\W\d][\w'₀-₉]*"
 
@@ -192,11 +192,12 @@ def functions_of(repository, crate, file, module, passed):
             owner = (None, None, "")
         said = FUNCTION.match(line)
         if said:
-            clauses = clauses_of(lines, number - 1, said[1])
+            head = head_of(lines, number - 1, said[1])
             name, of, trait = said[3], owner[0], owner[1]
             is_public = visible(said[2], of, trait, owner[2], name, module, passed)
             what = f"{of}::{name}" if of and not trait else f"{trait} for {of}::{name}" if of else name
-            found.append(Function(crate, module, (of, trait), what, file, number, is_public, clauses, words, aliases, attributes))
+            has_body = not head.rstrip().endswith(";")
+            found.append(Function(crate, module, (of, trait), what, file, number, is_public, has_body, clauses_of(head), words, aliases, attributes))
         attributes = [*attributes, line.strip()] if line.strip().startswith("#[") else attributes if line.strip().startswith("//") else []
     return found
 
@@ -216,15 +217,19 @@ def is_in_public(module, passed):
     return module == "" or f"mod {module.split('.')[0]}" in passed and "." not in module
 
 
-def clauses_of(lines, at, indent):
-    """The clauses of the function whose line this is."""
+def head_of(lines, at, indent):
+    """The text of the function whose line this is, up to its body, without comments."""
     taken = []
     for line in lines[at:]:
         taken.append(line)
         bare = line.rstrip()
         if bare in (f"{indent}{{", f"{indent}{{}}") or bare.endswith((";", ") {", "> {")) or re.match(rf"^{indent}\S.*\{{$", bare):
             break
-    text = without_comments("\n".join(taken))
+    return without_comments("\n".join(taken))
+
+
+def clauses_of(text):
+    """The clauses of a function's text."""
     found, place = [], 0
     begin = re.compile(r"\b(requires|ensures)(\*?)\s+(?:(\w+)\s+)?\{")
     while True:
@@ -262,14 +267,23 @@ def cited(function, known):
     return found
 
 
+def proof_folders(repository, crate):
+    """The folders below a crate's proofs/, by their paths from the top."""
+    return sorted(at[len(repository.top) + 1 :] for at, _, _ in os.walk(f"{repository.top}/crates/{crate}/proofs"))
+
+
 def proof_of(repository, function):
     """How a function's proof came: by hand in files, with lemmas named beside it, or with nothing written."""
+    if not function.has_body:
+        return "each implementation's"
     of, trait = function.owner
     name = function.name.split("::")[-1]
     cycles = [it for line in function.attributes for it in re.findall(r"#\[cycle\((\w+)\)\]", line)]
     inside = (of or "") + (trait or "")
     folder = f"crates/{function.crate}/proofs/{function.module.replace('.', '/')}".rstrip("/")
     places = [f"{folder}/{inside}/{it}".replace("//", "/") for it in (name, f"+{name}")] + [f"{folder}/+{it}" for it in cycles]
+    # (a method's folder stands where its type is declared)
+    places += [it for it in proof_folders(repository, function.crate) if of and it.endswith(f"/{inside}/{name}")]
     for place in places:
         at = f"{repository.top}/{place}"
         files = sorted(it[:-5] for it in os.listdir(at) if it.endswith(".antt")) if os.path.isdir(at) else []

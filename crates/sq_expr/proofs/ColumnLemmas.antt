@@ -1,5 +1,5 @@
 -- A comparison of two columns.
-use Rattle.std.proofs.Common.{◌≡◌, ℕ, zero, suc, List, [], ◌∷◌, Option, Some, subst, arith}
+use Rattle.std.proofs.Common.{◌≡◌, ℕ, zero, suc, List, [], ◌∷◌, Option, Some, refl, subst, arith}
 use Rattle.std.specs.Prelude.{Contains, IsBitSet}
 use Rattle.sq_value.specs.Relation.{Relation}
 use Rattle.sq_value.specs.declared.value.ColType.{ColType}
@@ -8,14 +8,16 @@ use Rattle.sq_value.specs.declared.predicate.Kinds.{Kinds}
 use Rattle.sq_expr.specs.declared.cond.ColumnOf.{ColumnOf}
 use Rattle.sq_expr.specs.declared.cond.Side.TheVariants.{Column}
 use Rattle.sq_expr.specs.declared.cond.Cond.TheVariants.{Compare}
-use Rattle.sq_expr.specs.Fits.{FitsCond, FitsHere, Covers, HasRow, kind_in}
+use Rattle.sq_expr.specs.Fits.{FitsCond, FitsHere, Covers, HasRow, kind_in, class_of}
 use Rattle.sq_expr.proofs.FitLemmas.{made-Compare, aliases_of-Compare}
 
--- it fits where both are of one type
-pub FitsCond-columns : (kinds : ℕ → Option Kinds) (tables : List Relation) (uses : List ℕ) (x : ColumnOf) (how : Cmp) (y : ColumnOf) (k : ColType)
-    → kind_in tables uses x ≡ Some k → kind_in tables uses y ≡ Some k → FitsCond kinds tables uses (Compare (Column x) how (Column y))
-FitsCond-columns kinds tables uses x how y k e f =
-    made-Compare (FitsHere kinds (λ c kind. kind_in tables uses c ≡ Some kind)) (Column x) how (Column y) (k, (e, f))
+-- it fits where both are of types of one class
+pub FitsCond-columns : (kinds : ℕ → Option Kinds) (tables : List Relation) (uses : List ℕ) (x : ColumnOf) (how : Cmp) (y : ColumnOf) (j k : ColType)
+    → class_of j ≡ class_of k → kind_in tables uses x ≡ Some j → kind_in tables uses y ≡ Some k
+    → FitsCond kinds tables uses (Compare (Column x) how (Column y))
+FitsCond-columns kinds tables uses x how y j k same e f =
+    made-Compare (FitsHere kinds (λ c kind. kind_in tables uses c ≡ Some kind)) (Column x) how (Column y)
+    (class_of k, ((j, (e, same)), (k, (f, refl))))
 
 either : (P : ℕ → Type 0) (a b n : ℕ) → P a → P b → Contains (a ∷ b ∷ []) n → P n
 either P a b n p q (zero, h, e) = subst P e p

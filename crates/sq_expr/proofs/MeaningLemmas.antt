@@ -1,14 +1,15 @@
 -- The truth of a condition, case by case.
 use Rattle.std.proofs.Common.{◌≡◌, ℕ, Bool, List, [], ◌∷◌, refl, ap, ◌∙◌}
-use Rattle.std.specs.Prelude.{◌&&◌, map}
+use Rattle.std.specs.Prelude.{◌&&◌, map, is_none}
 use Rattle.std.specs.List.{list_all}
-use Rattle.sq_value.specs.Comparison.{compared, two_valued}
+use Rattle.sq_value.specs.Comparison.{truth_of_order, two_valued}
+use Rattle.sq_value.specs.Rank.{order_between}
 use Rattle.sq_value.specs.Truth.{conjoined, negated, is_truth}
 use Rattle.sq_value.specs.declared.value.Value.{Value}
 use Rattle.sq_value.specs.declared.value.Truth.{Truth}
 use Rattle.sq_value.specs.declared.value.Truth.TheVariants.{False, Unknown, True}
 use Rattle.sq_value.specs.declared.value.Cmp.{Cmp}
-use Rattle.sq_expr.specs.Meaning.{truth_of, truth_at_level, side_value, arg_value, is_null, least, greatest}
+use Rattle.sq_expr.specs.Meaning.{truth_of, truth_at_level, side_rank, arg_value, least, greatest}
 use Rattle.sq_expr.specs.declared.cond.ColumnOf.{ColumnOf}
 use Rattle.sq_expr.specs.declared.cond.Side.{Side}
 use Rattle.sq_expr.specs.declared.cond.Arg.{Arg}
@@ -18,14 +19,14 @@ use Rattle.sq_expr.specs.declared.cond.Cond.TheVariants as variants
 
 -- a comparison compares what its sides stand for
 pub truth_of-Compare : (gives : ℕ → Value → Value → Truth) (at : ColumnOf → Value) (x : Side) (how : Cmp) (y : Side)
-    → truth_of gives at (Compare x how y) ≡ compared (side_value at x) (side_value at y) how
+    → truth_of gives at (Compare x how y) ≡ truth_of_order (order_between (side_rank at x) (side_rank at y)) how
 unfolding truth_of
 truth_of-Compare gives at x how y =
     rw (fold_out-Cond Truth (truth_at_level gives at) (Compare x how y), variants.outs-Compare x how y) refl
 
 -- IS NULL asks whether its side is null, and a call is what the predicate gives
 pub truth_of-IsNull : (gives : ℕ → Value → Value → Truth) (at : ColumnOf → Value) (x : Side)
-    → truth_of gives at (variants.IsNull x) ≡ two_valued (is_null (side_value at x))
+    → truth_of gives at (variants.IsNull x) ≡ two_valued (is_none (side_rank at x))
 unfolding truth_of
 truth_of-IsNull gives at x = rw (fold_out-Cond Truth (truth_at_level gives at) (variants.IsNull x), variants.outs-IsNull x) refl
 

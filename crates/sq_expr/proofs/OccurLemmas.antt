@@ -6,7 +6,6 @@ use Rattle.std.proofs.lemmas.List.Elements.{All-head, All-tail, Contains-append_
 use Rattle.std.proofs.lemmas.Option.{slice_get_within, option_and_then_some}
 use Rattle.sq_value.specs.Relation.{Relation}
 use Rattle.sq_value.specs.declared.value.ColType.{ColType}
-use Rattle.sq_value.specs.declared.value.ColType.TheVariants as kind
 use Rattle.sq_value.specs.declared.predicate.Kinds.{Kinds}
 use Rattle.sq_expr.specs.declared.cond.ColumnOf.{ColumnOf}
 use Rattle.sq_expr.specs.declared.cond.Term.{Term}
@@ -17,7 +16,7 @@ use Rattle.sq_expr.specs.declared.cond.Arg.TheVariants as arg
 use Rattle.sq_expr.specs.declared.cond.Cond.{Cond, Cond-F, map-Cond, ind-Cond, roll-Cond, out-roll-Cond, every-Cond, every_here-Cond}
 use Rattle.sq_expr.specs.declared.cond.Cond.TheOpen as level
 use Rattle.sq_expr.specs.declared.cond.Cond.TheVariants as variants
-use Rattle.sq_expr.specs.Fits.{FitsCond, FitsHere, FitsSide, FitsArg, FitsTerm, kind_in, column_kind, aliases_of, aliases_at_level, side_aliases, arg_aliases, term_aliases}
+use Rattle.sq_expr.specs.Fits.{Class, FitsCond, FitsHere, FitsSide, FitsArg, FitsTerm, kind_in, column_kind, aliases_of, aliases_at_level, side_aliases, arg_aliases, term_aliases}
 use Rattle.sq_expr.proofs.FitLemmas.{every-Not, every-All, every-Any, every-Is}
 use Rattle.sq_expr.proofs.WeakerLemmas.{aliases-at_level, every-also}
 
@@ -38,7 +37,7 @@ module _ (kinds : ℕ → Option Kinds) (has : ColumnOf → ColType → Type 0) 
     where
       by : (o : Option ColumnOf) → FitsTerm has t.factor o → Contains (term_aliases o) a → Occurs a
       by None f m = absurd (omega (arith, m.1))
-      by (Some c) f m = record { column = c; k = kind.Integer; of = only c.alias a m; fits = f.1 }
+      by (Some c) f m = record { column = c; k = f.1.0; of = only c.alias a m; fits = f.1.1.0 }
 
   terms_occur : (ts : List Term) (a : ℕ) → All (λ (t : Term). FitsTerm has t.factor t.column) ts → Contains (flat_map (λ (t : Term). term_aliases t.column) ts) a → Occurs a
   terms_occur [] a f m = absurd (omega (arith, m.1))
@@ -47,10 +46,10 @@ module _ (kinds : ℕ → Option Kinds) (has : ColumnOf → ColType → Type 0) 
       ⊎_elim (λ here. term_occurs t a (All-head fits t ts f) here) (λ behind. terms_occur ts a (All-tail fits t ts f) behind)
       (Contains-append_cases (term_aliases t.column) (flat_map (λ (u : Term). term_aliases u.column) ts) a m)
 
-  side_occurs : (k : ColType) (s : Side) (a : ℕ) → FitsSide has k s → Contains (side_aliases s) a → Occurs a
+  side_occurs : (k : Class) (s : Side) (a : ℕ) → FitsSide has k s → Contains (side_aliases s) a → Occurs a
   side_occurs k side.Null a f m = absurd (omega (arith, m.1))
   side_occurs k (side.Text t) a f m = absurd (omega (arith, m.1))
-  side_occurs k (side.Column c) a f m = record { column = c; k = k; of = only c.alias a m; fits = f }
+  side_occurs k (side.Column c) a f m = record { column = c; k = f.0; of = only c.alias a m; fits = f.1.0 }
   side_occurs k (side.Sum terms) a f m = terms_occur terms a f.3 m
 
   arg_occurs : (k : ColType) (x : Arg) (a : ℕ) → FitsArg has k x → Contains (arg_aliases x) a → Occurs a

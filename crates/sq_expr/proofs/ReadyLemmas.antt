@@ -10,7 +10,7 @@ use Rattle.sq_value.specs.declared.predicate.Kinds.{Kinds}
 use Rattle.sq_expr.specs.declared.cond.ColumnOf.{ColumnOf}
 use Rattle.sq_expr.specs.declared.cond.Cond.{Cond}
 use Rattle.sq_expr.specs.Fits.{FitsCond, Covers, HasRow, kind_in, column_kind}
-use Rattle.sq_expr.specs.Reading.{IsInRange, IsSeen, IsReady}
+use Rattle.sq_expr.specs.Reading.{IsInRange, IsSeen, IsReadyOver}
 use Rattle.sq_expr.proofs.WeakerLemmas.{every-also}
 
 -- a column with a type stands in its table
@@ -42,7 +42,7 @@ IsSeen-row tables uses rows c k n e r = record { range = range; kind = e }
         })
 
 pub IsReady-fits : (kinds : ℕ → Option Kinds) (tables : List Relation) (uses rows : List ℕ) (span : ℕ) (c : Cond) → length uses ≡ 12
-    → FitsCond kinds tables uses c → Covers tables uses rows span c → IsReady kinds tables uses rows c
+    → FitsCond kinds tables uses c → Covers tables uses rows span c → IsReadyOver kinds tables uses rows c
 IsReady-fits kinds tables uses rows span c n fits covers =
     every-also kinds (λ col k. kind_in tables uses col ≡ Some k) (IsSeen tables uses rows) c fits
     (λ col k m e. IsSeen-row tables uses rows col k n e (covers.chosen col.alias m))

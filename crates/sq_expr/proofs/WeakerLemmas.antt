@@ -14,7 +14,7 @@ use Rattle.sq_expr.specs.declared.cond.Arg.TheVariants as arg
 use Rattle.sq_expr.specs.declared.cond.Cond.{Cond, Cond-F, map-Cond, fold-roll-Cond, ind-Cond, roll-Cond, out-roll-Cond, every-Cond, every_here-Cond, every_made-Cond}
 use Rattle.sq_expr.specs.declared.cond.Cond.TheOpen as level
 use Rattle.sq_expr.specs.declared.cond.Cond.TheVariants as variants
-use Rattle.sq_expr.specs.Fits.{FitsHere, FitsSide, FitsArg, FitsTerm, aliases_of, aliases_at_level, side_aliases, arg_aliases, term_aliases}
+use Rattle.sq_expr.specs.Fits.{Class, Numbers, HasClass, FitsHere, FitsSide, FitsArg, FitsTerm, aliases_of, aliases_at_level, side_aliases, arg_aliases, term_aliases}
 use Rattle.sq_expr.proofs.FitLemmas.{every-Not, every-All, every-Any, every-Is}
 
 -- what is in the list of one element is in the list of all
@@ -36,17 +36,20 @@ module _ (kinds : ℕ → Option Kinds) (has also : ColumnOf → ColType → Typ
   abbrev Holds : List ℕ → Type 0
   Holds aliases = (c : ColumnOf) (k : ColType) → Contains aliases c.alias → has c k → also c k
 
+  class_also : (class : Class) (c : ColumnOf) → Holds (c.alias ∷ []) → HasClass has class c → HasClass also class c
+  class_also class c p f = (f.0, (p c f.0 (one_alone c.alias) f.1.0, f.1.1))
+
   term_also : (t : Term) → Holds (term_aliases t.column) → FitsTerm has t.factor t.column → FitsTerm also t.factor t.column
   term_also t p f = by t.column p f
     where
       by : (o : Option ColumnOf) → Holds (term_aliases o) → FitsTerm has t.factor o → FitsTerm also t.factor o
       by None p f = f
-      by (Some c) p f = (f.0, p c _ (one_alone c.alias) f.1)
+      by (Some c) p f = (f.0, class_also Numbers c p f.1)
 
-  side_also : (k : ColType) (s : Side) → Holds (side_aliases s) → FitsSide has k s → FitsSide also k s
+  side_also : (k : Class) (s : Side) → Holds (side_aliases s) → FitsSide has k s → FitsSide also k s
   side_also k side.Null p f = f
   side_also k (side.Text t) p f = f
-  side_also k (side.Column c) p f = p c k (one_alone c.alias) f
+  side_also k (side.Column c) p f = class_also k c p f
   side_also k (side.Sum terms) p f = (
     f.0,
     f.1,

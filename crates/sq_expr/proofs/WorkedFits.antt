@@ -17,7 +17,7 @@ use Rattle.sq_expr.specs.declared.cond.Cond.{Cond}
 use Rattle.sq_expr.specs.declared.cond.Cond.TheVariants.{Compare}
 use Rattle.sq_expr.specs.declared.cond.Side.TheVariants.{Column, Sum}
 use Rattle.sq_expr.specs.declared.cond.Term.{Term}
-use Rattle.sq_expr.specs.Fits.{FitsAlias, FitsConjunct, FitsCond, FitsHere, FitsSide, FitsTerm, IsFit, kind_in, aliases_of}
+use Rattle.sq_expr.specs.Fits.{Class, Numbers, FitsAlias, FitsConjunct, FitsCond, FitsHere, FitsSide, FitsTerm, IsFit, kind_in, aliases_of}
 use Rattle.sq_expr.proofs.FitLemmas.{made-Compare, aliases_of-Compare}
 
 -- one table n of one INTEGER column x
@@ -58,9 +58,9 @@ has c kind = kind_in numbers (0 ∷ []) c ≡ Some kind
 is_one-fits : FitsCond no_kinds numbers (0 ∷ []) is_one
 is_one-fits =
     made-Compare (FitsHere no_kinds has) (Column x) Eq (Sum (literal ∷ [])) (
-      Integer,
+      Numbers,
       (
-        refl,
+        (Integer, (refl, refl)),
         (
           refl,
           omega arith,
@@ -103,9 +103,9 @@ ones-fit = record {
   order = λ k d h. absurd (omega arith);
 }
 
--- a sum of no terms or of nine is of no type
-pub none-unfit : (kind : ColType) → FitsSide has kind (Sum []) → ⊥
-none-unfit kind f = omega (arith, f.1)
+-- a sum of no terms or of nine is of no class
+pub none-unfit : (class : Class) → FitsSide has class (Sum []) → ⊥
+none-unfit class f = omega (arith, f.1)
 
-pub nine-unfit : (kind : ColType) → FitsSide has kind (Sum (literal ∷ literal ∷ literal ∷ literal ∷ literal ∷ literal ∷ literal ∷ literal ∷ literal ∷ [])) → ⊥
-nine-unfit kind f = omega (arith, f.2)
+pub nine-unfit : (class : Class) → FitsSide has class (Sum (literal ∷ literal ∷ literal ∷ literal ∷ literal ∷ literal ∷ literal ∷ literal ∷ literal ∷ [])) → ⊥
+nine-unfit class f = omega (arith, f.2)

@@ -3,7 +3,7 @@ use Rattle.std.specs.Prelude.{◌≡◌, ℕ, ◌<◌, ◌≤◌, ◌⊎◌, ◌
 use Rattle.std.specs.List.{flat_map, concat}
 use Rattle.std.specs.Option.{option_map, option_to_list}
 use Rattle.sq_value.specs.declared.value.ColType.{ColType}
-use Rattle.sq_value.specs.declared.value.ColType.TheVariants.{Integer, Text}
+use Rattle.sq_value.specs.declared.value.ColType.TheVariants.{Integer, Text, Decimal}
 use Rattle.sq_value.specs.declared.predicate.Kinds.{Kinds}
 use Rattle.sq_value.specs.Relation.{Relation, HasKind}
 use Rattle.sq_expr.specs.declared.cond.ColumnOf.{ColumnOf}
@@ -28,28 +28,43 @@ column_kind tables table column = option_map (λ c. c.kind) (option_and_then (λ
 abbrev pub kind_in : List Relation → List ℕ → ColumnOf → Option ColType
 kind_in tables uses c = option_and_then (λ table. column_kind tables table c.column) (slice_get uses c.alias)
 
--- In the next four, `has c kind` says that the column c has the type. A literal of a sum has at most 63 bits beside its sign, and the factor of a column, which is INTEGER, at most 31
+-- numbers and texts: what may be compared with what
+pub data Class : Type 0 where
+  Numbers : Class
+  Texts : Class
+
+-- the class of a type
+abbrev pub class_of : ColType → Class
+class_of Integer = Numbers
+class_of Text = Texts
+class_of (Decimal scale) = Numbers
+
+-- In the next five, `has c kind` says that the column c has the type. A column is of a class
+abbrev pub HasClass : (ColumnOf → ColType → Type 0) → Class → ColumnOf → Type 0
+HasClass has class c = (kind : ColType) × (has c kind × (class_of kind ≡ class))
+
+-- a literal of a sum has at most 63 bits beside its sign, and the factor of a column, which is a number, at most 31
 abbrev pub FitsTerm : (ColumnOf → ColType → Type 0) → ℤ → Option ColumnOf → Type 0
 FitsTerm has factor None = unsigned_abs factor ≤ 9223372036854775807
-FitsTerm has factor (Some c) = (unsigned_abs factor ≤ 2147483647) × has c Integer
+FitsTerm has factor (Some c) = (unsigned_abs factor ≤ 2147483647) × HasClass has Numbers c
 
--- a side of a comparison is of a type; NULL is of each type
-abbrev pub FitsSide : (ColumnOf → ColType → Type 0) → ColType → Side → Type 0
-FitsSide has kind side.Null = ⊤
-FitsSide has kind (side.Text t) = kind ≡ Text
-FitsSide has kind (side.Column c) = has c kind
-FitsSide has kind (side.Sum terms) =
-    (kind ≡ Integer) × (0 < length terms) × (length terms ≤ 8) × All (λ (t : Term). FitsTerm has t.factor t.column) terms
+-- a side of a comparison is of a class; NULL is of each
+abbrev pub FitsSide : (ColumnOf → ColType → Type 0) → Class → Side → Type 0
+FitsSide has class side.Null = ⊤
+FitsSide has class (side.Text t) = class ≡ Texts
+FitsSide has class (side.Column c) = HasClass has class c
+FitsSide has class (side.Sum terms) =
+    (class ≡ Numbers) × (0 < length terms) × (length terms ≤ 8) × All (λ (t : Term). FitsTerm has t.factor t.column) terms
 
 -- an argument of a predicate is null or of a type
 abbrev pub FitsArg : (ColumnOf → ColType → Type 0) → ColType → Arg → Type 0
 FitsArg has kind (arg.Literal v) = HasKind kind v
 FitsArg has kind (arg.Column c) = has c kind
 
--- one level of a condition fits: compared sides are of one type, and a predicate is there and gets arguments of its types
+-- one level of a condition fits: compared sides are of one class, and a predicate is there and gets arguments of its types
 abbrev pub FitsHere : (ℕ → Option Kinds) → (ColumnOf → ColType → Type 0) → Cond-F Cond → Type 0
-FitsHere kinds has (level.Compare x cmp y) = (kind : ColType) × (FitsSide has kind x × FitsSide has kind y)
-FitsHere kinds has (level.IsNull x) = (kind : ColType) × FitsSide has kind x
+FitsHere kinds has (level.Compare x cmp y) = (class : Class) × (FitsSide has class x × FitsSide has class y)
+FitsHere kinds has (level.IsNull x) = (class : Class) × FitsSide has class x
 FitsHere kinds has (level.Call number x y) = IsSomeAnd (kinds number) (λ k. FitsArg has k.first x × FitsArg has k.second y)
 FitsHere kinds has (level.Not part) = ⊤
 FitsHere kinds has (level.All parts) = ⊤

@@ -2,5 +2,5 @@ pub mod Meaning
 pub mod Fits
 pub mod Plain
 pub mod Reading
-pub mod Seen
 pub mod Samples
+pub mod Reach

@@ -1,8 +1,6 @@
--- Reading a condition's sides over chosen rows.
-use Rattle.std.specs.Prelude.{◌≡◌, ℕ, ◌<◌, List, length, Option, Some, None, ℤ, slice_get, slice_index}
+-- Serves proofs: reading a condition's sides over chosen rows.
+use Rattle.std.specs.Prelude.{◌≡◌, ℕ, ◌<◌, List, length, Option, Some, slice_get, slice_index}
 use Rattle.sq_value.specs.Relation.{Relation}
-use Rattle.sq_value.specs.declared.value.Value.{Value}
-use Rattle.sq_value.specs.declared.value.Value.TheVariants as value
 use Rattle.sq_value.specs.declared.value.ColType.{ColType}
 use Rattle.sq_value.specs.declared.predicate.Kinds.{Kinds}
 use Rattle.sq_expr.specs.Fits.{kind_in, FitsHere}
@@ -22,10 +20,5 @@ pub record IsSeen (tables : List Relation) (uses rows : List ℕ) (c : ColumnOf)
   pub kind : kind_in tables uses c ≡ Some k
 
 -- a condition that fits and whose columns stand in the chosen rows
-abbrev pub IsReady : (ℕ → Option Kinds) → List Relation → List ℕ → List ℕ → Cond → Type 0
-IsReady kinds tables uses rows cond = every-Cond (FitsHere kinds (IsSeen tables uses rows)) cond
-
--- a sum, where it isn't null, as a value
-abbrev pub whole : Option ℤ → Value
-whole None = value.Null
-whole (Some n) = value.Int n
+abbrev pub IsReadyOver : (ℕ → Option Kinds) → List Relation → List ℕ → List ℕ → Cond → Type 0
+IsReadyOver kinds tables uses rows cond = every-Cond (FitsHere kinds (IsSeen tables uses rows)) cond

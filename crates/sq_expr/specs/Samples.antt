@@ -1,4 +1,4 @@
--- What the tests' conditions keep: each column is one of a table's, at alias 0 or 1, which both use that table.
+-- Serves tests: what their conditions keep: each column is one of a table's, at alias 0 or 1, which both use that table.
 use Rattle.std.specs.Prelude.{◌≡◌, ℕ, zero, suc, ◌<◌, List, Option, Some, None, replicate}
 use Rattle.sq_value.specs.Relation.{Relation}
 use Rattle.sq_value.specs.declared.value.ColType.{ColType}

@@ -1,3 +1,4 @@
+//! Bound queries.
 use crate::cond::Cond;
 use sq_value::{SortWay, SqText};
 use sqlite_items::Items;

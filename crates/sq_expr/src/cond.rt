@@ -1,3 +1,4 @@
+//! Bound conditions, and the rows that they are evaluated over.
 ghost use Rattle.std.specs.Prelude.{◌≡◌, IfSome};
 ghost use Rattle.sq_value.specs.Relation.{HasKind};
 ghost use Rattle.sq_expr.specs.Meaning.{value_in};
@@ -15,7 +16,7 @@ pub struct ColumnOf {
     pub column: u32,
 }
 
-/// A term of a sum: an integer, or an integer factor times an INTEGER column.
+/// A term of a sum: an integer, or an integer factor times an INTEGER or DECIMAL column.
 #[derive(Clone, Copy, Debug, PartialEq, Eq)]
 pub struct Term {
     pub factor: i64,

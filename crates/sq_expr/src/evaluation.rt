@@ -1,13 +1,14 @@
+//! The truth of a condition, level by level.
 ghost use Rattle.std.specs.Prelude.{◌≡◌, All, map, IsSomeAnd};
 ghost use Rattle.sq_value.specs.Comparison as spec;
 ghost use Rattle.sq_value.specs.Truth.{is_truth};
 ghost use Rattle.sq_expr.specs.Meaning.{truth_of, value_in, arg_value, least, greatest};
 ghost use Rattle.sq_expr.specs.Fits.{FitsCond, FitsArg, Covers};
-ghost use Rattle.sq_expr.specs.Reading.{IsSeen, IsReady};
+ghost use Rattle.sq_expr.specs.Reading.{IsSeen, IsReadyOver};
 
 use crate::cond::{Arg, Chosen, Cond};
-use crate::operand::{argument, compare_sides, is_null, two_valued};
-use sq_value::{Predicates, Truth, and, not, or};
+use crate::operand::{argument, compare_sides, is_null};
+use sq_value::{Predicates, Truth, and, not, or, two_valued};
 
 // IS: whether a truth is the named one.
 fn asked(x: Truth, named: Truth) -> Truth
@@ -27,7 +28,7 @@ fn call<F: Predicates>(number: u8, x: &Arg, y: &Arg, rows: &Chosen<'_>, function
 // The least truth of the parts of a conjunction. Behind a part that is False none matters.
 #[cycle(evaluation)]
 fn least<F: Predicates>(parts: &[Cond], rows: &Chosen<'_>, functions: &F) -> Truth
-    requires { All (IsReady (F.kinds_of functions.now) rows.now.tables.now rows.now.uses rows.now.rows) parts.now }
+    requires { All (IsReadyOver (F.kinds_of functions.now) rows.now.tables.now rows.now.uses rows.now.rows) parts.now }
     ensures { result ≡ least (map (truth_of F.gives (value_in rows.now.tables.now rows.now.uses rows.now.rows)) parts.now) }
 {
     let mut least = Truth::True;
@@ -43,7 +44,7 @@ fn least<F: Predicates>(parts: &[Cond], rows: &Chosen<'_>, functions: &F) -> Tru
 // The greatest truth of the parts of a disjunction. Behind a part that is True none matters.
 #[cycle(evaluation)]
 fn greatest<F: Predicates>(parts: &[Cond], rows: &Chosen<'_>, functions: &F) -> Truth
-    requires { All (IsReady (F.kinds_of functions.now) rows.now.tables.now rows.now.uses rows.now.rows) parts.now }
+    requires { All (IsReadyOver (F.kinds_of functions.now) rows.now.tables.now rows.now.uses rows.now.rows) parts.now }
     ensures { result ≡ greatest (map (truth_of F.gives (value_in rows.now.tables.now rows.now.uses rows.now.rows)) parts.now) }
 {
     let mut greatest = Truth::False;
@@ -59,7 +60,7 @@ fn greatest<F: Predicates>(parts: &[Cond], rows: &Chosen<'_>, functions: &F) -> 
 // The truth of a condition whose columns stand in the chosen rows.
 #[cycle(evaluation)]
 fn evaluate<F: Predicates>(cond: &Cond, rows: &Chosen<'_>, functions: &F) -> Truth
-    requires { IsReady (F.kinds_of functions.now) rows.now.tables.now rows.now.uses rows.now.rows cond.now }
+    requires { IsReadyOver (F.kinds_of functions.now) rows.now.tables.now rows.now.uses rows.now.rows cond.now }
     ensures { result ≡ truth_of F.gives (value_in rows.now.tables.now rows.now.uses rows.now.rows) cond.now }
 {
     match cond {

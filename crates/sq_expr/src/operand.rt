@@ -1,103 +1,55 @@
-ghost use Rattle.std.specs.Prelude.{◌≡◌};
-ghost use Rattle.sq_value.specs.Comparison.{compared, Comparable};
-ghost use Rattle.sq_value.specs.Comparison as spec;
+//! The sides of a comparison and the arguments of a predicate, read over chosen rows.
+ghost use Rattle.std.specs.Prelude.{◌≡◌, is_none};
+ghost use Rattle.std.specs.Option.{option_map};
+ghost use Rattle.sq_value.specs.Rank.{order_between};
+ghost use Rattle.sq_value.specs.Comparison.{truth_of_order};
+ghost use Rattle.sq_value.specs.Key.{rank_of_key};
 ghost use Rattle.sq_value.specs.Relation.{HasKind};
 ghost use Rattle.sq_value.specs.declared.value.ColType.{ColType};
-ghost use Rattle.sq_expr.specs.Meaning.{value_in, side_value, arg_value, is_null};
-ghost use Rattle.sq_expr.specs.Fits.{FitsSide, FitsArg};
+ghost use Rattle.sq_expr.specs.Meaning.{value_in, side_rank, arg_value};
+ghost use Rattle.sq_expr.specs.Fits.{Class, FitsSide, FitsArg};
 ghost use Rattle.sq_expr.specs.Reading.{IsSeen};
-ghost use Rattle.sq_expr.specs.Seen.{seen_value};
 
 use crate::cond::{Arg, Chosen, Side};
 use crate::sum::sum;
-use sq_value::{Cmp, Truth, Value, compare};
-use std::cmp::Ordering;
+use sq_value::{Cmp, Key, Truth, Value, compare, key_of, key_order, truth_of_order};
 
-// The value of a side of a comparison, for which nothing is copied. A sum has 128 bits.
-#[derive(Clone, Copy)]
-enum Seen<'t> {
-    Null,
-    Int(i128),
-    Text(&'t str),
-}
-
-fn as_seen(value: &Value) -> Seen<'_>
-    ensures { seen_value result ≡ value.now }
-{
-    match value {
-        Value::Null => Seen::Null,
-        Value::Int(n) => Seen::Int(i128::from(*n)),
-        Value::Text(text) => Seen::Text(text.as_str()),
-    }
-}
-
-// What a side stands for, in the chosen rows.
-fn side_value<'t>(side: &'t Side, rows: &Chosen<'t>) -> Seen<'t>
-    requires { (k : ColType) × FitsSide (IsSeen rows.now.tables.now rows.now.uses rows.now.rows) k side.now }
-    ensures value { seen_value result ≡ side_value (value_in rows.now.tables.now rows.now.uses rows.now.rows) side.now }
-    ensures kind { (k : ColType) → FitsSide (IsSeen rows.now.tables.now rows.now.uses rows.now.rows) k side.now → HasKind k (seen_value result) }
+// What a side is compared by, in the chosen rows, for which nothing is copied. None where it is
+// null.
+fn side_key<'t>(side: &'t Side, rows: &Chosen<'t>) -> Option<Key<'t>>
+    requires { (class : Class) × FitsSide (IsSeen rows.now.tables.now rows.now.uses rows.now.rows) class side.now }
+    ensures { option_map rank_of_key result ≡ side_rank (value_in rows.now.tables.now rows.now.uses rows.now.rows) side.now }
 {
     match side {
-        Side::Null => Seen::Null,
-        Side::Text(text) => Seen::Text(text.as_str()),
-        Side::Column(column) => as_seen(rows.value(*column)),
+        Side::Null => None,
+        Side::Text(text) => Some(Key::Text(text.as_str())),
+        Side::Column(column) => key_of(rows.value(*column)),
         Side::Sum(terms) => match sum(terms.as_slice(), rows) {
-            Some(n) => Seen::Int(n),
-            None => Seen::Null,
+            Some(number) => Some(Key::Number(number)),
+            None => None,
         },
     }
 }
 
 // Whether a side is null in the chosen rows.
 pub fn is_null(side: &Side, rows: &Chosen<'_>) -> bool
-    requires { (k : ColType) × FitsSide (IsSeen rows.now.tables.now rows.now.uses rows.now.rows) k side.now }
-    ensures { result ≡ is_null (side_value (value_in rows.now.tables.now rows.now.uses rows.now.rows) side.now) }
+    requires { (class : Class) × FitsSide (IsSeen rows.now.tables.now rows.now.uses rows.now.rows) class side.now }
+    ensures { result ≡ is_none (side_rank (value_in rows.now.tables.now rows.now.uses rows.now.rows) side.now) }
 {
-    match side_value(side, rows) {
-        Seen::Null => true,
-        _ => false,
-    }
-}
-
-fn holds(cmp: Cmp, order: Ordering) -> bool
-    ensures { result ≡ spec.is_met cmp order }
-{
-    match cmp {
-        Cmp::Eq => order == Ordering::Equal,
-        Cmp::Ne => order != Ordering::Equal,
-        Cmp::Lt => order == Ordering::Less,
-        Cmp::Le => order != Ordering::Greater,
-        Cmp::Gt => order == Ordering::Greater,
-        Cmp::Ge => order != Ordering::Less,
-    }
-}
-
-/// True where a test holds, and False where it doesn't.
-pub fn two_valued(holds: bool) -> Truth
-    ensures { result ≡ spec.two_valued holds }
-{
-    if holds { Truth::True } else { Truth::False }
-}
-
-fn compare_seen(x: Seen<'_>, y: Seen<'_>, cmp: Cmp) -> Truth
-    requires { Comparable (seen_value x) (seen_value y) }
-    ensures { result ≡ compared (seen_value x.entry) (seen_value y.entry) cmp }
-{
-    match (x, y) {
-        (Seen::Int(a), Seen::Int(b)) => two_valued(holds(cmp, a.cmp(&b))),
-        (Seen::Text(a), Seen::Text(b)) => two_valued(holds(cmp, a.cmp(b))),
-        _ => Truth::Unknown,
+    match side_key(side, rows) {
+        None => true,
+        Some(_) => false,
     }
 }
 
 // The truth of a comparison over the chosen rows. Two columns are compared where they lie.
 pub fn compare_sides(left: &Side, cmp: Cmp, right: &Side, rows: &Chosen<'_>) -> Truth
-    requires { (k : ColType) × (FitsSide (IsSeen rows.now.tables.now rows.now.uses rows.now.rows) k left.now × FitsSide (IsSeen rows.now.tables.now rows.now.uses rows.now.rows) k right.now) }
-    ensures { let at = value_in rows.now.tables.now rows.now.uses rows.now.rows in result ≡ compared (side_value at left.now) (side_value at right.now) cmp }
+    requires { (class : Class) × (FitsSide (IsSeen rows.now.tables.now rows.now.uses rows.now.rows) class left.now × FitsSide (IsSeen rows.now.tables.now rows.now.uses rows.now.rows) class right.now) }
+    ensures { let at = value_in rows.now.tables.now rows.now.uses rows.now.rows in result ≡ truth_of_order (order_between (side_rank at left.now) (side_rank at right.now)) cmp }
 {
     match (left, right) {
         (Side::Column(x), Side::Column(y)) => compare(rows.value(*x), rows.value(*y), cmp),
-        _ => compare_seen(side_value(left, rows), side_value(right, rows), cmp),
+        _ => truth_of_order(key_order(side_key(left, rows), side_key(right, rows)), cmp),
     }
 }
 

@@ -1,3 +1,5 @@
+pub mod DecimalLemmas
 pub mod FlatLemmas
 pub mod NumeralLemmas
 pub mod OrderLemmas
+pub mod WritingLemmas

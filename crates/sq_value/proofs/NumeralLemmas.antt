@@ -10,7 +10,7 @@ use Rattle.std.specs.Str.Parse.{IsNumeral, AllDigits, without_leading_sign, sign
 use Rattle.sq_value.specs.Numeral.{all_digits, is_numeral, is_i64, number_read}
 use Rattle.sq_value.specs.declared.integer.IntFault.TheVariants.{NotANumber, OutOfRange}
 
-both : (a b : Bool) → (a && b) ≡ true → (a ≡ true) × (b ≡ true)
+pub both : (a b : Bool) → (a && b) ≡ true → (a ≡ true) × (b ≡ true)
 both true true e = (refl, refl)
 both true false e = absurd (false≢true e)
 both false b e = absurd (false≢true e)

@@ -1,10 +1,9 @@
 -- Comparison under SQL-92's three truth values.
-use Rattle.std.specs.Prelude.{Bool, true, false, not, ⊤}
+use Rattle.std.specs.Prelude.{Bool, true, false, not, Option, Some, None, IfSome, IsSome}
 use Rattle.std.specs.declared.cmp.Ordering.{Ordering}
-use Rattle.std.specs.Ordering.{int_cmp, nat_cmp, is_eq, is_lt, is_gt}
-use Rattle.std.specs.Cmp.Lexicographic.{slice_cmp}
+use Rattle.std.specs.Ordering.{is_eq, is_lt, is_gt}
+use Rattle.sq_value.specs.Rank.{rank_of, rank_order, value_order}
 use Rattle.sq_value.specs.declared.value.Value.{Value}
-use Rattle.sq_value.specs.declared.value.Value.TheVariants.{Null, Int, Text}
 use Rattle.sq_value.specs.declared.value.Truth.{Truth}
 use Rattle.sq_value.specs.declared.value.Truth.TheVariants.{False, Unknown, True}
 use Rattle.sq_value.specs.declared.value.Cmp.{Cmp}
@@ -24,22 +23,15 @@ abbrev pub two_valued : Bool → Truth
 two_valued true = True
 two_valued false = False
 
--- the truth of a comparison: Unknown exactly where a side is null; numbers as numbers, texts by bytes
-abbrev pub compared : Value → Value → Cmp → Truth
-compared Null y cmp = Unknown
-compared (Int a) Null cmp = Unknown
-compared (Int a) (Int b) cmp = two_valued (is_met cmp (int_cmp a b))
-compared (Int a) (Text t) cmp = Unknown
-compared (Text s) Null cmp = Unknown
-compared (Text s) (Int b) cmp = Unknown
-compared (Text s) (Text t) cmp = two_valued (is_met cmp (slice_cmp nat_cmp s t))
+-- the truth of a comparison of what stands in an order: Unknown where there is none
+abbrev pub truth_of_order : Option Ordering → Cmp → Truth
+truth_of_order None cmp = Unknown
+truth_of_order (Some order) cmp = two_valued (is_met cmp order)
 
--- two values that may be compared: no integer beside a text
+-- the truth of a comparison of two values
+abbrev pub compared : Value → Value → Cmp → Truth
+compared x y cmp = truth_of_order (value_order x y) cmp
+
+-- two values that may be compared: no number beside a text
 abbrev pub Comparable : Value → Value → Type 0
-Comparable Null y = ⊤
-Comparable (Int a) Null = ⊤
-Comparable (Int a) (Int b) = ⊤
-Comparable (Int a) (Text t) = ⊥
-Comparable (Text s) Null = ⊤
-Comparable (Text s) (Int b) = ⊥
-Comparable (Text s) (Text t) = ⊤
+Comparable x y = IfSome (rank_of x) (λ a. IfSome (rank_of y) (λ b. IsSome (rank_order a b)))

@@ -1,4 +1,4 @@
--- The table that a flat list of values stands for.
+-- Serves proofs: the table that a flat list of values stands for.
 use Rattle.std.specs.Prelude.{◌≡◌, ◌*◌, length, All}
 use Rattle.sq_value.specs.Relation.{Relation, IsRow, IsHeading, rows_of}
 use Rattle.sq_value.specs.declared.table.Table.TheInside.{Inside}

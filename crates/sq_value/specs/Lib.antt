@@ -1,8 +1,10 @@
 pub mod Name
 pub mod Truth
+pub mod Rank
 pub mod Comparison
-pub mod Numeral
-pub mod Relation
-pub mod Flat
 pub mod Order
 pub mod Key
+pub mod Numeral
+pub mod Decimal
+pub mod Relation
+pub mod Flat

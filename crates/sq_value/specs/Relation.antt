@@ -1,5 +1,5 @@
 -- What a table is: typed columns, and a list of rows with one value for each column.
-use Rattle.std.specs.Prelude.{ℕ, zero, suc, ◌<◌, ◌≤◌, List, [], ◌∷◌, length, take, drop, Option, option_and_then, slice_get, All, ⊤}
+use Rattle.std.specs.Prelude.{◌≡◌, ℕ, zero, suc, ◌<◌, ◌≤◌, List, [], ◌∷◌, length, take, drop, Option, option_and_then, slice_get, All, ⊤}
 use Rattle.sq_value.specs.Name.{IsSameName}
 use Rattle.sq_value.specs.declared.value.Value.{Value}
 use Rattle.sq_value.specs.declared.value.Value.TheVariants as value
@@ -12,14 +12,18 @@ pub record Relation : Type 0 where
   pub columns : List Column
   pub rows : List (List Value)
 
--- a value is null or of the type
+-- a value is null or of the type; a DECIMAL has its column's scale, which is at most 6
 abbrev pub HasKind : ColType → Value → Type 0
-HasKind kind.Integer value.Null = ⊤
+HasKind kind value.Null = ⊤
 HasKind kind.Integer (value.Int n) = ⊤
 HasKind kind.Integer (value.Text t) = ⊥
-HasKind kind.Text value.Null = ⊤
+HasKind kind.Integer (value.Decimal d) = ⊥
 HasKind kind.Text (value.Int n) = ⊥
 HasKind kind.Text (value.Text t) = ⊤
+HasKind kind.Text (value.Decimal d) = ⊥
+HasKind (kind.Decimal scale) (value.Int n) = ⊥
+HasKind (kind.Decimal scale) (value.Text t) = ⊥
+HasKind (kind.Decimal scale) (value.Decimal d) = (d.scale ≡ scale) × (scale ≤ 6)
 
 -- a row has one value for each column, null or of the column's type
 abbrev pub IsRow : List Column → List Value → Type 0

@@ -1,3 +1,4 @@
+//! Integers written in decimal digits.
 ghost use Rattle.std.specs.Prelude.{◌≡◌};
 ghost use Rattle.std.specs.Str.Parse.{without_leading_sign};
 ghost use Rattle.sq_value.specs.Numeral.{number_read};
@@ -12,14 +13,15 @@ pub enum IntFault {
     OutOfRange,
 }
 
-fn is_digits(digits: &[u8]) -> bool
+// Whether each byte is an ASCII digit.
+pub(crate) fn is_digits(digits: &[u8]) -> bool
     ensures { result ≡ spec.all_digits digits.now }
 {
     digits.iter().all(|b| b.is_ascii_digit())
 }
 
 // The text behind its sign, if it has one.
-fn without_sign(text: &[u8]) -> &[u8]
+pub(crate) fn without_sign(text: &[u8]) -> &[u8]
     ensures { result.now ≡ without_leading_sign text.now }
 {
     match text {

@@ -1,3 +1,4 @@
+//! The three truth values' AND, OR and NOT.
 ghost use Rattle.std.specs.Prelude.{◌≡◌};
 ghost use Rattle.sq_value.specs.Truth.{conjoined, disjoined, negated};
 

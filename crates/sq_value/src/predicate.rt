@@ -1,3 +1,4 @@
+//! Registered predicates: what a query may call.
 ghost use Rattle.std.specs.Prelude.{◌≡◌, ℕ, Option, Some, None, IsSome, IfSome};
 
 use crate::value::{ColType, Truth, Value};

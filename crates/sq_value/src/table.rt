@@ -1,3 +1,4 @@
+//! Tables: typed columns and rows.
 ghost use Rattle.std.specs.Prelude.{◌≡◌, [], ◌∷◌, ◌++◌, ◌<◌, length, Some, IfOk, IfSome, OnOk, OnErr, All, slice_get};
 
 use crate::memory::Memory;
@@ -16,7 +17,7 @@ pub struct Column {
 /// A table: typed columns and rows, in the order in which they were pushed.
 ///
 /// The rows lie one after another in one flat list of values, so that a row costs no list of its
-/// own and a cell is one index computation. A table of integers takes 16 bytes a cell.
+/// own and a cell is one index computation. A cell takes 24 bytes.
 #[derive(Debug, Drop)]
 pub struct Table {
     columns: Vec<Column>,

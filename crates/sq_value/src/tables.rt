@@ -1,3 +1,4 @@
+//! The tables of a run.
 ghost use Rattle.std.specs.Prelude.{◌≡◌, [], ◌∷◌, ◌++◌, ◌<◌, length, Some, OnOk, OnErr, slice_get};
 
 use crate::memory::Memory;

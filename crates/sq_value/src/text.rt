@@ -1,3 +1,4 @@
+//! Texts.
 ghost use Rattle.std.specs.Prelude.{◌≡◌, IfOk};
 
 use crate::memory::Memory;
@@ -6,7 +7,7 @@ use std::marker::Model;
 
 /// A text in UTF-8, which contracts see as its bytes.
 ///
-/// It is one pointer wide, so that a table's cell is two words.
+/// It is one pointer wide, so that a table's cell is three words.
 #[derive(Debug, Drop)]
 pub struct SqText {
     text: Box<String>,

@@ -4,7 +4,7 @@ use Rattle.sq_value.specs.Comparison.{two_valued}
 use Rattle.sq_value.specs.declared.value.Truth.{Truth}
 use Rattle.sq_expr.specs.Meaning.{truth_of, value_in, least, greatest}
 use Rattle.sq_expr.specs.Fits.{FitsHere}
-use Rattle.sq_expr.specs.Reading.{IsSeen, IsReady}
+use Rattle.sq_expr.specs.Reading.{IsSeen, IsReadyOver}
 use Rattle.sq_expr.specs.declared.cond.Cond.{Cond, the_lemmas}
 use Rattle.sq_expr.specs.declared.cond.Cond.TheVariants as variants
 use Rattle.sq_expr.proofs.FitLemmas.{every-here, every-Not, every-All, every-Any, every-Is}
@@ -33,28 +33,28 @@ pub evaluate-evaluate-requires : goal.evaluate-evaluate-requires
 evaluate-evaluate-requires g t c κs within =
     let rows = c.args.rows.now in
     let fits = FitsHere (g.F.Predicates.kinds_of c.args.functions.now) (IsSeen rows.tables.now rows.uses rows.rows) in
-    let ready = IsReady (g.F.Predicates.kinds_of c.args.functions.now) rows.tables.now rows.uses rows.rows in
+    let ready = IsReadyOver (g.F.Predicates.kinds_of c.args.functions.now) rows.tables.now rows.uses rows.rows in
     (search (rules, the_lemmas), (search rules, subst ready (sym c.get.ensures) (every-Not fits _ _ c.in-Not.is c.requires)))
 
 pub evaluate-least-requires : goal.evaluate-least-requires
 evaluate-least-requires g t c κs within =
     let rows = c.args.rows.now in
     let fits = FitsHere (g.F.Predicates.kinds_of c.args.functions.now) (IsSeen rows.tables.now rows.uses rows.rows) in
-    let ready = IsReady (g.F.Predicates.kinds_of c.args.functions.now) rows.tables.now rows.uses rows.rows in
+    let ready = IsReadyOver (g.F.Predicates.kinds_of c.args.functions.now) rows.tables.now rows.uses rows.rows in
     (search (rules, the_lemmas), (search rules, subst (All ready) (sym c.as_slice.ensures) (every-All fits _ _ c.in-All.is c.requires)))
 
 pub evaluate-greatest-requires : goal.evaluate-greatest-requires
 evaluate-greatest-requires g t c κs within =
     let rows = c.args.rows.now in
     let fits = FitsHere (g.F.Predicates.kinds_of c.args.functions.now) (IsSeen rows.tables.now rows.uses rows.rows) in
-    let ready = IsReady (g.F.Predicates.kinds_of c.args.functions.now) rows.tables.now rows.uses rows.rows in
+    let ready = IsReadyOver (g.F.Predicates.kinds_of c.args.functions.now) rows.tables.now rows.uses rows.rows in
     (search (rules, the_lemmas), (search rules, subst (All ready) (sym c.as_slice-in-Any.ensures) (every-Any fits _ _ c.in-Any.is c.requires)))
 
 pub evaluate-evaluate-requires-in-Is : goal.evaluate-evaluate-requires-in-Is
 evaluate-evaluate-requires-in-Is g t c κs within =
     let rows = c.args.rows.now in
     let fits = FitsHere (g.F.Predicates.kinds_of c.args.functions.now) (IsSeen rows.tables.now rows.uses rows.rows) in
-    let ready = IsReady (g.F.Predicates.kinds_of c.args.functions.now) rows.tables.now rows.uses rows.rows in
+    let ready = IsReadyOver (g.F.Predicates.kinds_of c.args.functions.now) rows.tables.now rows.uses rows.rows in
     (search (rules, the_lemmas), (search rules, subst ready (sym c.get-in-Is.ensures) (every-Is fits _ _ _ c.in-Is.is c.requires)))
 
 pub evaluate-returns-in-Compare : goal.evaluate-returns-in-Compare
