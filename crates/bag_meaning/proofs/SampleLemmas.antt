@@ -8,7 +8,7 @@ use Rattle.std.proofs.lemmas.List.{length-map}
 use Rattle.std.proofs.lemmas.List.Elements.{All-map, All-cons, All-nil}
 use Rattle.sq_value.specs.declared.value.ColType.TheVariants as kind
 use Rattle.sq_value.specs.declared.value.Cmp.TheVariants.{Lt}
-use Rattle.sq_expr.specs.Fits.{IsFit, FitsAlias, FitsConjunct, FitsHere, kind_in}
+use Rattle.sq_expr.specs.Fits.{Texts, IsFit, FitsAlias, FitsConjunct, FitsHere, kind_in}
 use Rattle.sq_expr.specs.declared.cond.Side.TheVariants.{Column, Text}
 use Rattle.sq_expr.specs.declared.block.AliasUse.{AliasUse}
 use Rattle.sq_expr.specs.declared.block.OutCol.{OutCol}
@@ -72,13 +72,13 @@ span_of_none a = ((λ set. absurd (set refl)), (λ m. absurd (omega (arith, m.1)
 
 pub FitsConjunct-below : (more : List ℕ) → FitsConjunct no_kinds sample_tables (0 ∷ 0 ∷ more) below
 FitsConjunct-below more = record {
-  cond = FitsCond-columns no_kinds sample_tables (0 ∷ 0 ∷ more) record { alias = 0; column = 0 } Lt record { alias = 1; column = 0 } kind.Integer refl refl;
+  cond = FitsCond-columns no_kinds sample_tables (0 ∷ 0 ∷ more) record { alias = 0; column = 0 } Lt record { alias = 1; column = 0 } kind.Integer kind.Integer refl refl refl;
   span = λ a. subst (λ (l : List ℕ). (IsBitSet 3 a ↔ Contains l a)) (sym (aliases_of-Compare (Column record { alias = 0; column = 0 }) Lt (Column record { alias = 1; column = 0 }))) (span_of_two a);
 }
 
 pub FitsConjunct-never : (uses : List ℕ) → FitsConjunct no_kinds sample_tables uses never
 FitsConjunct-never uses = record {
-  cond = made-IsNull (FitsHere no_kinds (λ c k. kind_in sample_tables uses c ≡ Some k)) (Text (codes "a")) (kind.Text, refl);
+  cond = made-IsNull (FitsHere no_kinds (λ c k. kind_in sample_tables uses c ≡ Some k)) (Text (codes "a")) (Texts, refl);
   span = λ a. subst (λ (l : List ℕ). (IsBitSet 0 a ↔ Contains l a)) (sym (aliases_of-IsNull (Text (codes "a")))) (span_of_none a);
 }
 
