@@ -1,5 +1,5 @@
 //! Decimal numbers read from texts.
-ghost use Rattle.std.specs.Prelude.{◌≡◌, ◌+◌, ◌*◌, ◌^◌, ◌<◌, ◌≤◌, ◌&&◌, ◌++◌, length, nat_lt, SomeIff, IsTrue};
+ghost use Rattle.std.specs.Prelude.{◌≡◌, ◌+◌, ◌*◌, ◌^◌, ◌<◌, ◌≤◌, ◌&&◌, ◌++◌, length, nat_lt, SomeIff, IfOk, IsTrue};
 ghost use Rattle.std.specs.Option.{option_copied};
 ghost use Rattle.std.specs.Char.{is_ascii_digit, digit_value};
 ghost use Rattle.std.specs.Str.Parse.{starts_with_minus, digits_value, digits_value_after};
@@ -153,7 +153,8 @@ fn decimal_of(
     behind: Option<&[u8]>,
 ) -> Result<Dec, DecFault>
     requires { scale ≤ 6 }
-    ensures { result ≡ spec.decimal_of scale negative whole.now (option_copied behind.entry) }
+    ensures number { result ≡ spec.decimal_of scale negative whole.now (option_copied behind.entry) }
+    ensures scale { IfOk result (λ d. d.scale ≡ scale) }
 {
     if !is_decimal(scale, whole, behind) {
         return Err(DecFault::NotADecimal);
@@ -173,7 +174,8 @@ fn decimal_of(
 /// 9,223,372,036,854,775,807.
 pub fn read_decimal(text: &str, scale: u8) -> Result<Dec, DecFault>
     requires { scale ≤ 6 }
-    ensures { result ≡ decimal_read scale text.now }
+    ensures number { result ≡ decimal_read scale text.now }
+    ensures scale { IfOk result (λ d. d.scale ≡ scale) }
 {
     let text = text.as_bytes();
     let (whole, behind) = parts(without_sign(text));
