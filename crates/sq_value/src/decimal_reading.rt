@@ -110,8 +110,8 @@ fn units_written(scale: u8, whole: &[u8], fraction: &[u8]) -> Option<u64>
 }
 
 // A number with its sign. None where 64 bits don't hold it.
-fn signed(negative: bool, size: u64) -> Option<i64>
-    ensures { let number = spec.signed negative size in SomeIff result (IsTrue (is_i64 number)) number }
+fn with_sign(negative: bool, size: u64) -> Option<i64>
+    ensures { let number = spec.with_sign negative size in SomeIff result (IsTrue (is_i64 number)) number }
 {
     let number = if negative {
         -i128::from(size)
@@ -137,10 +137,11 @@ fn units_of(scale: u8, negative: bool, whole: &[u8], fraction: &[u8]) -> Option<
     requires fraction { IsTrue (all_digits fraction.now) }
     requires few { length fraction.now ≤ scale }
     requires scale { scale ≤ 6 }
-    ensures { let units = spec.signed negative (spec.units_written scale whole.now fraction.now) in SomeIff result (IsTrue (is_i64 units)) units }
+    ensures { let units = spec.with_sign negative (spec.units_written scale whole.now fraction.now) in
+        SomeIff result (IsTrue (is_i64 units)) units }
 {
     match units_written(scale, whole, fraction) {
-        Some(size) => signed(negative, size),
+        Some(size) => with_sign(negative, size),
         None => None,
     }
 }
