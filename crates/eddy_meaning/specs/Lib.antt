@@ -1,0 +1,11 @@
+pub mod Tuple
+pub mod Log
+pub mod Entries
+pub mod Owed
+pub mod Faithful
+pub mod Keys
+pub mod Route
+pub mod Kept
+pub mod Chased
+pub mod Act
+pub mod Hops

@@ -1,0 +1,12 @@
+pub mod KeepLemmas
+pub mod EndLemmas
+pub mod GoingLemmas
+pub mod JustifiedLemmas
+pub mod ReachedLemmas
+pub mod WorkerLemmas
+pub mod PoolLemmas
+pub mod PermutationLemmas
+pub mod CloseLemmas
+pub mod SharedLemmas
+mod WorkedScans
+mod WorkedLookUps

@@ -1,0 +1,80 @@
+//! The laws of runs, as contracts of functions that do nothing.
+ghost use Rattle.std.specs.Prelude.{◌≡◌, ℕ, ◌+◌, ◌*◌, ◌<◌, ◌≤◌, ◌++◌, Option, List, Some, [], ◌∷◌, true, cond, nat_lt, length, take, slice_get, slice_index};
+ghost use Rattle.std.specs.List.Sorted.{IsPermutation};
+ghost use Rattle.sq_value.specs.Relation.{Relation};
+ghost use Rattle.sq_value.specs.declared.value.Value.{Value};
+ghost use Rattle.sq_value.specs.declared.value.Truth.{Truth};
+ghost use Rattle.sq_value.specs.declared.predicate.Kinds.{Kinds};
+ghost use Rattle.sq_expr.specs.Fits.{IsFit};
+ghost use Rattle.sq_expr.specs.declared.block.AliasUse.{AliasUse};
+ghost use Rattle.sq_expr.specs.declared.block.Block.{Block};
+ghost use Rattle.bag_meaning.specs.declared.combo.Built.{Built};
+ghost use Rattle.eddy_meaning.specs.Log.{HasNoRepeat, rows_built};
+ghost use Rattle.eddy_meaning.specs.Owed.{all_credits};
+ghost use Rattle.eddy_runs.specs.declared.event.Event.{Event};
+ghost use Rattle.eddy_runs.specs.State.{State, IsStep, IsRun, IsKeeping, HasEnded, empty_state};
+ghost use Rattle.eddy_runs.specs.Justified.{IsAnswering};
+ghost use Rattle.eddy_runs.specs.Reached.{IsReached};
+ghost use Rattle.eddy_runs.specs.Complete.{IsBagOf};
+ghost use Rattle.eddy_meaning.specs.Keys.{Mark};
+ghost use Rattle.eddy_runs.specs.Close.{Seat, PoolMove, HaveClosed, HaveEnded, results_of};
+ghost use Rattle.eddy_runs.specs.Shared.{block_log, place_in};
+
+/// The laws of the core's runs. It does nothing.
+///
+/// What is told of a state stands at the start (`start`), is kept by each step (`step`), and so
+/// stands in each state of each run (`run`): in all of them what was found and what the pending
+/// tuples owe is what the log is credited with, each pending tuple is faithful and within its
+/// hops, each row that came is kept, and each entry is chased. Where a run has ended its results
+/// are the bag in another order, look-ups included (`end`).
+pub fn run_laws()
+    ensures start { (gives : ℕ → Value → Value → Truth) (block : Block) (tables : List Relation)
+        → IsReached gives block tables (empty_state block) }
+    ensures step { (gives : ℕ → Value → Value → Truth) (kinds : ℕ → Option Kinds) (block : Block)
+        → (tables : List Relation) → IsFit kinds tables block → (old : State) (event : Event) (new : State)
+        → IsReached gives block tables old → IsStep gives block tables old event new
+        → IsReached gives block tables new }
+    ensures run { (gives : ℕ → Value → Value → Truth) (kinds : ℕ → Option Kinds) (block : Block)
+        → (tables : List Relation) → IsFit kinds tables block → (events : List Event) (s : State)
+        → IsRun gives block tables events s → IsReached gives block tables s }
+    ensures end { (gives : ℕ → Value → Value → Truth) (kinds : ℕ → Option Kinds) (block : Block)
+        → (tables : List Relation) → IsFit kinds tables block
+        → (alias : ℕ) (u : AliasUse) → slice_get block.aliases alias ≡ Some u → u.access.scan ≡ true
+        → (s : State) → IsReached gives block tables s → HasEnded block tables s
+        → IsBagOf gives block tables s.results }
+{}
+
+/// The laws of the workers' close. It does nothing.
+///
+/// The results of all workers together are what the log is credited with (`credits`). Where each
+/// row came to some worker, they are the bag in another order (`bag`).
+pub fn close_laws()
+    ensures credits { (gives : ℕ → Value → Value → Truth) (block : Block) (tables : List Relation)
+        → (seats : List Seat) (log : List Built) (marks : List Mark) (moves : List PoolMove)
+        → HaveClosed gives block tables seats log marks moves
+        → IsPermutation (results_of seats) (all_credits gives block tables log) }
+    ensures bag { (gives : ℕ → Value → Value → Truth) (kinds : ℕ → Option Kinds) (block : Block)
+        → (tables : List Relation) → IsFit kinds tables block
+        → (alias : ℕ) (u : AliasUse) → slice_get block.aliases alias ≡ Some u → u.access.scan ≡ true
+        → (seats : List Seat) (log : List Built) (marks : List Mark) (moves : List PoolMove)
+        → HaveEnded gives block tables seats log marks moves
+        → IsBagOf gives block tables (results_of seats) }
+{}
+
+/// The laws of the log that a block gets from a shared one, in which entries are rows of tables. It
+/// does nothing.
+///
+/// No entry stands in it twice (`once`). Before the place of an alias's entry an alias has the rows
+/// of its table up to the shared entry, and that row too where its number is lower (`rows`). The
+/// test of stamps `12 p + a` is that of the shared stamps p, or of `p + 1` where the other alias is
+/// lower (`stamps`).
+pub fn shared_laws()
+    ensures once { (uses : List ℕ) (shared : List Built) → HasNoRepeat shared → HasNoRepeat (block_log uses shared) }
+    ensures rows { (uses : List ℕ) (front back : List Built) (e : Built) (a b : ℕ)
+        → a ≤ length uses → b < length uses
+        → rows_built b (take (place_in uses front e.alias a) (block_log uses (front ++ e ∷ back)))
+        ≡ rows_built (slice_index uses b)
+        (take (cond (nat_lt b a) (length front + 1) (length front)) (front ++ e ∷ back)) }
+    ensures stamps { (p q a b : ℕ) → a < 12 → b < 12
+        → nat_lt (12 * q + b) (12 * p + a) ≡ nat_lt q (cond (nat_lt b a) (p + 1) p) }
+{}
