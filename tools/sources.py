@@ -5,6 +5,7 @@ from collections import namedtuple
 
 Definition = namedtuple("Definition", "crate module name kind file line comment")
 Clause = namedtuple("Clause", "kind name text")
+Model = namedtuple("Model", "crate type file line is_public parts words aliases")
 Function = namedtuple("Function", "crate module owner name file line is_public has_body clauses words aliases attributes")
 
 NAME = r"[^\W\d][\w'₀-₉]*"
@@ -202,6 +203,25 @@ def functions_of(repository, crate, file, module, passed):
     return found
 
 
+def models(repository, crate):
+    """What clauses see of a crate's types: each `impl Model`, with the texts of its ghost members."""
+    found, tests, passed = [], test_modules(repository, crate), exported(repository, crate)
+    for file in repository.files(crate, "src", ".rt"):
+        module, text = module_of(file, "src"), without_comments(repository.text(file))
+        if in_tests(module, tests):
+            continue
+        words, aliases = imports(text)
+        for said in re.finditer(r"^impl\b[^{;]*\bModel for (\w+)[^{;]*\{", text, re.M):
+            inside = text[said.end() : balanced(text, said.end() - 1)]
+            parts = [(name, " ".join(inside[it.end() : balanced(inside, it.end() - 1)].split()))
+                     for name in ("Value", "view", "invariant")
+                     for it in re.finditer(rf"\bghost {name}\s*=\s*\{{", inside)]
+            is_public = passed is None or said[1] in passed or is_in_public(module, passed)
+            line = text.count("\n", 0, said.start()) + 1
+            found.append(Model(crate, said[1], file, line, is_public, parts, words, aliases))
+    return found
+
+
 def visible(said, of, trait, kind, name, module, passed):
     """Whether other crates can call it; in a program, whether other modules can."""
     if kind.startswith(("trait", "pub trait", "pub(crate) trait")):
@@ -242,7 +262,7 @@ def clauses_of(text):
 
 
 def cited(function, known):
-    """The repository's definitions that each clause of a function cites, in the order in which they stand there.
+    """The repository's definitions that each clause of a function, or member of a model, cites, in their order there.
     `known` has each crate's definitions, by crate, and there by module and name."""
     def of(module, name):
         parts = module.split(".")
@@ -251,20 +271,22 @@ def cited(function, known):
         return known[parts[1]].get((".".join(parts[3:]), name))
 
     signs = {word: [it for it in word.split("◌") if it] for word in function.words if "◌" in word}
-    found = []
-    for clause in function.clauses:
+    def names_in(text):
         names = []
-        for dotted in re.findall(rf"{NAME}(?:\.{NAME})*", clause.text):
+        for dotted in re.findall(rf"{NAME}(?:\.{NAME})*", text):
             first, _, rest = dotted.partition(".")
             if first in function.words:
                 names.append(of(*function.words[first]))
             elif first in function.aliases and rest:
                 names.append(of(function.aliases[first], rest.split(".")[0]))
         for word, parts in signs.items():
-            if parts and all(it in clause.text for it in parts):
+            if parts and all(it in text for it in parts):
                 names.append(of(*function.words[word]))
-        found.append((clause, list(dict.fromkeys(it for it in names if it))))
-    return found
+        return list(dict.fromkeys(it for it in names if it))
+
+    if isinstance(function, Model):
+        return [(part, names_in(text)) for part, text in function.parts]
+    return [(clause, names_in(clause.text)) for clause in function.clauses]
 
 
 def proof_folders(repository, crate):

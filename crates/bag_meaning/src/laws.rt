@@ -4,7 +4,7 @@ ghost use Rattle.std.specs.List.Sorted.{IsPermutation};
 ghost use Rattle.sq_value.specs.Relation.{Relation};
 ghost use Rattle.sq_value.specs.declared.value.Value.{Value};
 ghost use Rattle.bag_meaning.specs.Bag.{bag, selected, search_condition};
-ghost use Rattle.bag_meaning.specs.Answer.{answer};
+ghost use Rattle.bag_meaning.specs.Answer.{answer, IsAnswer};
 ghost use Rattle.bag_meaning.specs.Credit.{credits, IsWhole};
 
 use crate::combo::Built;
@@ -18,9 +18,16 @@ pub fn bag_law()
         → bag gives block tables ≡ selected gives block tables (search_condition block) }
 {}
 
-/// The law of the answer: without ORDER BY it is the bag. It does nothing.
+/// The laws of the answer. It does nothing.
+///
+/// What `answer` gives is an answer, `is_answer`, and there is no other, `only`. Without ORDER BY it
+/// is the bag, `unordered`.
 pub fn answer_laws()
-    ensures { (gives : ℕ → Value → Value → Truth) (block : Block) (tables : List Relation)
+    ensures is_answer { (gives : ℕ → Value → Value → Truth) (block : Block) (tables : List Relation)
+        → IsAnswer gives block tables (answer gives block tables) }
+    ensures only { (gives : ℕ → Value → Value → Truth) (block : Block) (tables : List Relation) (rows : List (List ℕ))
+        → IsAnswer gives block tables rows → rows ≡ answer gives block tables }
+    ensures unordered { (gives : ℕ → Value → Value → Truth) (block : Block) (tables : List Relation)
         → block.order ≡ [] → answer gives block tables ≡ bag gives block tables }
 {}
 

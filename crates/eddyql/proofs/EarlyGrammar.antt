@@ -107,7 +107,7 @@ module _ (limits : Limits) where
   )
 
   compared_in : (a dot c equal b dot' d : Tok) → Compared a dot c equal b dot' d
-      → g.compared limits (a ∷ dot ∷ c ∷ equal ∷ b ∷ dot' ∷ d ∷ []) (tree_at a c equal b d)
+      → g.comparison limits (a ∷ dot ∷ c ∷ equal ∷ b ∷ dot' ∷ d ∷ []) (tree_at a c equal b d)
   compared_in a dot c equal b dot' d h = (
     (operand_at a c, (equal, operand_at b d)),
     record {

@@ -1,6 +1,6 @@
 -- What the stage of a status tells of it, and what may be said of a status by its stage.
 use Rattle.std.proofs.Common.{◌≡◌, ℕ, List, Option, Some, None, Result, Ok, Err, refl, sym, ◌∙◌, ap, subst, ◌⊎◌, inl, inr}
-use Rattle.std.specs.Prelude.{IsOk, MatchOption}
+use Rattle.std.specs.Prelude.{IsOk, IfErr, MatchOption, ⊤}
 use Rattle.std.proofs.lemmas.Bool.{false≢true}
 use Rattle.sq_parse.specs.declared.parser.ParseFault.{ParseFault}
 use Rattle.eddyql.specs.Stage.{stage_of, file_unread}
@@ -151,3 +151,32 @@ ends_by_refusal reads writes refusal s h calm = by (file_unread s) h
     by : (o : Option FileOf) → MatchOption o (EndsAt (stage_of s) writes (Err refusal) s) reads → (s ≡ refusal) ⊎ (s ≡ status.Memory)
     by None k = at (stage_of s) refl k
     by (Some f) k = absurd (calm f k)
+
+-- what holds of any status
+pub holds_anyway : (s : Status) (P : Type 0) → P → UnlessReadOrMemory s P
+holds_anyway s P p = by (file_unread s)
+  where
+    at : (st : Stage) → HoldsAt st P
+    at stage.Memory = tt
+    at _ = p
+
+    by : (o : Option FileOf) → MatchOption o (HoldsAt (stage_of s) P) (λ file. ⊤)
+    by None = at (stage_of s)
+    by (Some f) = tt
+
+-- and so of each refusal
+pub refused_anyway : {A : Type 0} (r : Result A Status) (P : Type 0) → P → IfErr r (λ s. UnlessReadOrMemory s P)
+refused_anyway (Ok x) P p = tt
+refused_anyway (Err s) P p = holds_anyway s P p
+
+-- what holds of a status holds by what it stands for
+pub holds_same : (s : Status) (P Q : Type 0) → (P → Q) → UnlessReadOrMemory s P → UnlessReadOrMemory s Q
+holds_same s P Q f = by (file_unread s)
+  where
+    at : (st : Stage) → HoldsAt st P → HoldsAt st Q
+    at stage.Memory h = tt
+    at _ h = f h
+
+    by : (o : Option FileOf) → MatchOption o (HoldsAt (stage_of s) P) (λ file. ⊤) → MatchOption o (HoldsAt (stage_of s) Q) (λ file. ⊤)
+    by None h = at (stage_of s) h
+    by (Some g) h = tt

@@ -7,7 +7,7 @@ ghost use Rattle.outside.specs.Faults.{NeverFalls, Rose};
 ghost use Rattle.eddyql.specs.Words.{table_of_word};
 ghost use Rattle.eddyql.specs.TableText.{early_table};
 ghost use Rattle.eddyql.specs.Outcome.{table_read, tables_read, or_refuse, ReachedTable};
-ghost use Rattle.eddyql.specs.Refusal.{MayRefuse, IsEarly, never};
+ghost use Rattle.eddyql.specs.Refusal.{MayRefuse, IsEarly, UnlessReadOrMemory, never};
 ghost use Rattle.eddyql.specs.Loaded.{LoadRefused, IsIntegerTable, AddsTable};
 ghost use Rattle.eddyql.specs.declared.status.FileOf.{FileOf};
 ghost use Rattle.eddyql.specs.declared.status.FileOf.TheVariants as file;
@@ -33,6 +33,8 @@ pub fn load<F: Folder>(
 ) -> Result<Vec<u8>, Status>
     ensures keeps { F.holds folder.new ≡ F.holds folder.old }
     ensures counts { NeverFalls (F.faults folder.old) (F.faults folder.new) }
+    ensures kept { OnOk result (F.faults folder.new ≡ F.faults folder.old) }
+    ensures refused_kept { IfErr result (λ s. UnlessReadOrMemory s (F.faults folder.new ≡ F.faults folder.old)) }
     ensures gives { IfOk result (λ bytes. Gives (F.holds folder.old) name.now 67108865 bytes.items) }
     ensures refused { IfErr result (LoadRefused (F.holds folder.old) name.now file (Rose (F.faults folder.old) (F.faults folder.new))) }
 {
@@ -69,6 +71,8 @@ fn load_table<F: Folder>(
 ) -> Result<Table, Status>
     ensures keeps { F.holds folder.new ≡ F.holds folder.old }
     ensures counts { NeverFalls (F.faults folder.old) (F.faults folder.new) }
+    ensures kept { OnOk result (F.faults folder.new ≡ F.faults folder.old) }
+    ensures refused_kept { IfErr result (λ s. UnlessReadOrMemory s (F.faults folder.new ≡ F.faults folder.old)) }
     ensures told { IfOk result (λ table. (files : List File) → F.holds folder.old ≡ Some files
         → table_read number files (table_of_word word.now) ≡ Ok table) }
     ensures integers { IfOk result IsIntegerTable }
@@ -94,6 +98,8 @@ fn push_table<F: Folder>(
     requires { length tables.old < 4294967295 }
     ensures keeps { F.holds folder.new ≡ F.holds folder.old }
     ensures counts { NeverFalls (F.faults folder.old) (F.faults folder.new) }
+    ensures kept { OnOk result (F.faults folder.new ≡ F.faults folder.old) }
+    ensures refused_kept { IfErr result (λ s. UnlessReadOrMemory s (F.faults folder.new ≡ F.faults folder.old)) }
     ensures added { OnOk result (AddsTable (F.holds folder.old) number word.now tables.old tables.new) }
     ensures refused { IfErr result (λ s. (files : List File) → F.holds folder.old ≡ Some files
         → MayRefuse (λ f. Rose (F.faults folder.old) (F.faults folder.new) × (f ≡ file.Table number)) (table_read number files (table_of_word word.now)) s) }
@@ -116,6 +122,8 @@ pub fn load_tables<F: Folder>(
     requires { length words.now ≤ 16 }
     ensures keeps { F.holds folder.new ≡ F.holds folder.old }
     ensures counts { NeverFalls (F.faults folder.old) (F.faults folder.new) }
+    ensures kept { OnOk result (F.faults folder.new ≡ F.faults folder.old) }
+    ensures refused_kept { IfErr result (λ s. UnlessReadOrMemory s (F.faults folder.new ≡ F.faults folder.old)) }
     ensures count { IfOk result (λ tables. length tables ≡ length words.now) }
     ensures integers { IfOk result (All IsIntegerTable) }
     ensures told { IfOk result (λ tables. (files : List File) → F.holds folder.old ≡ Some files

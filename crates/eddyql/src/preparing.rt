@@ -12,7 +12,7 @@ ghost use Rattle.eddyql.specs.Seen.{join_seen};
 ghost use Rattle.eddyql.specs.ScriptText as text_spec;
 ghost use Rattle.eddyql.specs.Stage.{file_unread};
 ghost use Rattle.eddyql.specs.Outcome.{or_refuse, join_read, block_bound, plan_of, Reached};
-ghost use Rattle.eddyql.specs.Refusal.{MayRefuse, IsEarly, never};
+ghost use Rattle.eddyql.specs.Refusal.{MayRefuse, IsEarly, UnlessReadOrMemory, never};
 ghost use Rattle.eddyql.specs.Loaded.{IsIntegerTable};
 ghost use Rattle.eddyql.specs.Runnable.{IsRunnable};
 ghost use Rattle.eddyql.specs.declared.status.FileOf.{FileOf};
@@ -141,6 +141,8 @@ pub fn prepare<F: Folder>(
     requires { length tables.now ≤ 16 }
     ensures keeps { F.holds folder.new ≡ F.holds folder.old }
     ensures counts { NeverFalls (F.faults folder.old) (F.faults folder.new) }
+    ensures kept { OnOk result (F.faults folder.new ≡ F.faults folder.old) }
+    ensures refused_kept { IfErr result (λ s. UnlessReadOrMemory s (F.faults folder.new ≡ F.faults folder.old)) }
     ensures told { IfOk result (λ plan. (files : List File) → F.holds folder.old ≡ Some files
         → (read : Result Script ParseFault) → text_spec.ScriptReadsAs (command_of script.now (map string_bytes tables.now)) files read
         → plan_of read (command_of script.now (map string_bytes tables.now)) files ≡ Ok plan) }

@@ -15,6 +15,7 @@ ghost use Rattle.eddyql.specs.Join.{no_meaning};
 ghost use Rattle.eddyql.specs.Writing.{HasRows, rows_of_combo};
 ghost use Rattle.eddyql.specs.Outcome.{IsOutcome, OneOutcome, text_of, ReachedBy};
 ghost use Rattle.eddyql.specs.Run.{MayEnd, status_of, text_due, IsLate, IsBeforeOutput};
+ghost use Rattle.eddyql.specs.Refusal.{UnlessReadOrMemory};
 ghost use Rattle.eddyql.specs.Runnable.{IsRunnable};
 ghost use Rattle.eddyql.specs.declared.status.FileOf.{FileOf};
 
@@ -96,6 +97,7 @@ pub fn run<F: Folder, O: Sink, N: Sink>(
         (Rose (O.faults out.old) (O.faults out.new)) due result }
     ensures usage_only { result ≡ Status.Usage → command (map string_bytes words.now) ≡ None }
     ensures usage { command (map string_bytes words.now) ≡ None → result ≡ Status.Usage }
+    ensures kept { UnlessReadOrMemory result (F.faults folder.new ≡ F.faults folder.old) }
     ensures untouched { command (map string_bytes words.now) ≡ None → folder.new ≡ folder.old }
     ensures syntax { (files : List File) → F.holds folder.old ≡ Some files → (text : List ℕ) (fault : ParseFault)
         → HasScript (map string_bytes words.now) files text → IsFault text fault → ¬ (Rose (F.faults folder.old) (F.faults folder.new))

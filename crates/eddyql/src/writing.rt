@@ -75,6 +75,8 @@ fn push_value(line: &mut Vec<u8>, value: &Value) -> Result<(), Memory>
         Value::Null => Ok(()),
         Value::Int(number) => push_field(line, Buffer::new().format(*number).as_bytes()),
         Value::Text(text) => push_field(line, text.as_str().as_bytes()),
+        // A table of the early form has no decimal number.
+        Value::Decimal(_) => Err(Memory),
     }
 }
 

@@ -1,20 +1,141 @@
 //! The truth of conditions, worked out by hand over two rows of a table: alias 0 has the last one,
 //! and alias 1 the first one.
-ghost use Rattle.std.specs.Prelude.{◌≡◌, [], ◌∷◌, codes, ◌<◌, length, IfOk};
-ghost use Rattle.sq_value.specs.Relation.{IsHeading};
-ghost use Rattle.sq_value.specs.declared.value.ColType.TheVariants as kinds;
+ghost use Rattle.std.specs.Prelude.{◌≡◌, ◌<◌, length, IfOk};
+ghost use Rattle.sq_value.specs.Relation.{IsHeading, IsRow};
+ghost use Rattle.sq_value.specs.declared.value.Value.TheVariants as value;
+ghost use Rattle.sq_expr.specs.Samples.{sample_columns};
 ghost use Rattle.sq_expr.specs.Fits.{FitsCond, Covers};
 
 mod written;
 
 use crate::{Chosen, Cond};
 use sq_value::{
-    Cmp, ColType, Column, Kinds, Memory, Predicates, SqText, Table, Tables, Truth, Value, compare,
+    Cmp, ColType, Column, Dec, Kinds, Memory, Predicates, SqText, Table, Tables, Truth, Value,
+    compare,
 };
 use std::alloc::Global;
-use std::process::Abort;
 use std::test::Fail;
 use written::{Words, condition, operand};
+
+/// A condition, and its truth: T, U or F.
+const CASES: &str = "\
+not eq cid 1|U
+or eq cid 1 eq amt 9|T
+not istrue eq cid 1|T
+not or eq amt 5 eq amt null|U
+or eq amt 9 eq amt null|T
+eq 8*amt+-1*amt 63|T
+eq null amt|U
+eq amt cid|U
+eq 1*cid+1 1|U
+ne null amt|U
+ne amt cid|U
+ne 1*cid+1 1|U
+lt null amt|U
+lt amt cid|U
+lt 1*cid+1 1|U
+le null amt|U
+le amt cid|U
+le 1*cid+1 1|U
+gt null amt|U
+gt amt cid|U
+gt 1*cid+1 1|U
+ge null amt|U
+ge amt cid|U
+ge 1*cid+1 1|U
+and eq amt 9 eq amt 9|T
+and eq amt 9 eq cid 1|U
+and eq amt 9 eq amt 5|F
+and eq cid 1 eq amt 9|U
+and eq cid 1 eq cid 1|U
+and eq cid 1 eq amt 5|F
+and eq amt 5 eq amt 9|F
+and eq amt 5 eq cid 1|F
+and eq amt 5 eq amt 5|F
+or eq amt 9 eq amt 9|T
+or eq amt 9 eq cid 1|T
+or eq amt 9 eq amt 5|T
+or eq cid 1 eq amt 9|T
+or eq cid 1 eq cid 1|U
+or eq cid 1 eq amt 5|U
+or eq amt 5 eq amt 9|T
+or eq amt 5 eq cid 1|U
+or eq amt 5 eq amt 5|F
+not eq amt 9|F
+not eq amt 5|T
+and0|T
+or0|F
+istrue eq amt 9|T
+istrue eq cid 1|F
+isfalse eq amt 5|T
+isfalse eq cid 1|F
+isunknown eq cid 1|T
+isunknown eq amt 9|F
+isnull cid|T
+isnull amt|F
+isnull null|T
+isnull 1+1*cid|T
+isnull 3|F
+eq amt 8|F
+ne amt 9|F
+ne amt 8|T
+lt amt 10|T
+lt amt 9|F
+le amt 9|T
+le amt 8|F
+gt amt 8|T
+gt amt 9|F
+ge amt 9|T
+ge amt 10|F
+lt AMT amt|T
+lt CID amt|F
+eq cid CID|U
+eq' NAME ab|T
+lt' NAME b|T
+lt' NAME a|F
+eq' name NAME|U
+below AMT amt|T
+below 9 amt|F
+below cid amt|U
+below null amt|U
+eq CID 9223372036854775807|T
+eq 1+1*AMT -9223372036854775807|T
+gt 1+1*CID CID|T
+lt -1+1*AMT AMT|T
+eq 1*CID+1*AMT -1|T
+eq -9223372036854775807+1*CID 0|T
+gt 2147483647*CID+2147483647*CID+2147483647*CID+2147483647*CID+2147483647*CID+2147483647*CID+2147483647*CID+2147483647*CID 0|T
+lt 2147483647*AMT+2147483647*AMT+2147483647*AMT+2147483647*AMT+2147483647*AMT+2147483647*AMT+2147483647*AMT+2147483647*AMT 0|T
+eq COST RATE|T
+ne COST RATE|F
+eq 1*COST+-1*RATE 0|T
+eq 4*cost -1|T
+eq 4*cost 0|F
+eq 4*cost -2|F
+lt cost amt|T
+lt amt cost|F
+ge COST 1|T
+gt COST 2|F
+eq 2*COST 3|T
+eq 2*RATE+-1 2|T
+eq cost rate|U
+lt rate 1|U
+eq rate null|U
+isnull rate|T
+isnull cost|F
+isnull 1*cost+1*rate|T
+eq TOP CID|T
+eq top AMT|T
+lt top cost|T
+gt TOP COST|T
+eq 1*TOP+1*top -1|T
+gt 2147483647*TOP+2147483647*TOP+2147483647*TOP+2147483647*TOP+2147483647*TOP+2147483647*TOP+2147483647*TOP+2147483647*TOP 0|T
+lt 2147483647*top+2147483647*top+2147483647*top+2147483647*top+2147483647*top+2147483647*top+2147483647*top+2147483647*top 0|T
+eq 2147483647*TOP+2147483647*TOP+2147483647*TOP+2147483647*TOP+-2147483647*TOP+-2147483647*TOP+-2147483647*TOP+-2147483647*TOP 0|T
+eq 2147483647*top+2147483647*top+2147483647*top+2147483647*top+-2147483647*top+-2147483647*top+-2147483647*top+-2147483647*top 0|T
+lt 2147483647*COST+2147483647*COST+2147483647*COST+2147483647*COST+2147483647*COST+2147483647*COST+2147483647*COST+2147483647*COST 9223372036854775807|T
+eq 1000000*COST+1 1500001|T
+eq 1*cost 0|F";
 
 /// One predicate, number 0: whether an integer is below another.
 struct Below;
@@ -56,24 +177,49 @@ fn column_named(alloc: Global, name: &str, kind: ColType) -> Result<Column, Memo
 
 fn heading(alloc: Global) -> Result<Vec<Column>, Memory>
     ensures shape { IfOk result (λ v. IsHeading v.items) }
-    ensures list { IfOk result (λ v. v.items ≡ record { name = codes "cid"; kind = kinds.Integer }
-        ∷ record { name = codes "amt"; kind = kinds.Integer } ∷ record { name = codes "name"; kind = kinds.Text } ∷ []) }
+    ensures list { IfOk result (λ v. v.items ≡ sample_columns) }
 {
     let cid = column_named(alloc, "cid", ColType::Integer)?;
     let amt = column_named(alloc, "amt", ColType::Integer)?;
     let name = column_named(alloc, "name", ColType::Text)?;
-    Ok(vec![in alloc; cid, amt, name]?)
+    let cost = column_named(alloc, "cost", ColType::Decimal(2))?;
+    let rate = column_named(alloc, "rate", ColType::Decimal(3))?;
+    let top = column_named(alloc, "top", ColType::Decimal(0))?;
+    Ok(vec![in alloc; cid, amt, name, cost, rate, top]?)
 }
 
-/// cid, amt, name / the greatest integer, the least one, ab / null, 9, null.
+fn decimal(units: i64, scale: u8) -> Value
+    ensures { result ≡ value.Decimal record { units = units; scale = scale } }
+{
+    Value::Decimal(Dec { units, scale })
+}
+
+/// The greatest integer, the least one, ab, 1.50, 1.500 and the greatest DECIMAL of scale 0.
+fn first_row(alloc: Global) -> Result<Vec<Value>, Memory>
+    ensures { IfOk result (λ v. IsRow (sample_columns) v.items) }
+{
+    let (most, least) = (Value::Int(i64::MAX), Value::Int(i64::MIN));
+    let name = Value::Text(SqText::of(alloc, "ab")?);
+    let (cost, rate, top) = (decimal(150, 2), decimal(1500, 3), decimal(i64::MAX, 0));
+    Ok(vec![in alloc; most, least, name, cost, rate, top]?)
+}
+
+/// Null, 9, null, -0.25, null and the least DECIMAL of scale 0.
+fn second_row(alloc: Global) -> Result<Vec<Value>, Memory>
+    ensures { IfOk result (λ v. IsRow (sample_columns) v.items) }
+{
+    let (cost, top) = (decimal(-25, 2), decimal(i64::MIN, 0));
+    let nine = Value::Int(9);
+    Ok(vec![in alloc; Value::Null, nine, Value::Null, cost, Value::Null, top]?)
+}
+
+/// A table of these two rows.
 fn samples(alloc: Global) -> Result<Tables, Memory>
     ensures { IfOk result (λ t. 0 < length t) }
 {
     let mut table = Table::new(alloc, heading(alloc)?)?;
-    let (top, low) = (Value::Int(i64::MAX), Value::Int(i64::MIN));
-    let name = Value::Text(SqText::of(alloc, "ab")?);
-    table.push_row(vec![in alloc; top, low, name]?)?;
-    table.push_row(vec![in alloc; Value::Null, Value::Int(9), Value::Null]?)?;
+    table.push_row(first_row(alloc)?)?;
+    table.push_row(second_row(alloc)?)?;
     let mut tables = Tables::new(alloc);
     tables.push(table)?;
     Ok(tables)
@@ -108,167 +254,43 @@ fn truth_of(alloc: Global, tables: &Tables, text: &str) -> Result<Truth, Fail> {
     Ok(truth(&cond, &chosen, &Below))
 }
 
-fn check(
-    rt: &impl Abort,
-    alloc: Global,
-    tables: &Tables,
-    cases: &[(&str, Truth)],
-) -> Result<(), Fail> {
-    for (text, expected) in cases {
-        let truth = truth_of(alloc, tables, text)?;
-        assert_eq!(rt; truth, *expected, "{text}");
+fn letter(truth: Truth) -> &'static str {
+    match truth {
+        Truth::False => "F",
+        Truth::Unknown => "U",
+        Truth::True => "T",
+    }
+}
+
+#[test]
+fn conditions_have_their_truths(rt: HostRuntime) -> Result<(), Fail> {
+    let alloc = rt.alloc();
+    let tables = samples(alloc)?;
+    for case in CASES.lines() {
+        let (text, wanted) = case.split_once('|').ok_or("a truth")?;
+        let truth = truth_of(alloc, &tables, text)?;
+        assert_eq!(rt; letter(truth), wanted, "{text}");
     }
     Ok(())
 }
 
-#[test]
-fn null_makes_unknown(rt: HostRuntime) -> Result<(), Fail> {
-    let alloc = rt.alloc();
-    let tables = samples(alloc)?;
-    let worked = [
-        ("not eq cid 1", Truth::Unknown),
-        ("or eq cid 1 eq amt 9", Truth::True),
-        ("not istrue eq cid 1", Truth::True),
-        ("not or eq amt 5 eq amt null", Truth::Unknown),
-        ("or eq amt 9 eq amt null", Truth::True),
-        ("eq 8*amt+-1*amt 63", Truth::True),
-    ];
-    check(&rt, alloc, &tables, &worked)?;
-    for cmp in ["eq", "ne", "lt", "le", "gt", "ge"] {
-        let left = format!(in alloc; "{cmp} null amt")?;
-        let right = format!(in alloc; "{cmp} amt cid")?;
-        let sum = format!(in alloc; "{cmp} 1*cid+1 1")?;
-        assert_eq!(rt;
-            truth_of(alloc, &tables, left.as_str())?,
-            Truth::Unknown,
-            "{left}"
-        );
-        assert_eq!(rt;
-            truth_of(alloc, &tables, right.as_str())?,
-            Truth::Unknown,
-            "{right}"
-        );
-        assert_eq!(rt;
-            truth_of(alloc, &tables, sum.as_str())?,
-            Truth::Unknown,
-            "{sum}"
-        );
-    }
-    Ok(())
-}
-
-#[test]
-fn truths_are_joined_by_the_tables(rt: HostRuntime) -> Result<(), Fail> {
-    let alloc = rt.alloc();
-    let tables = samples(alloc)?;
-    let (t, u, f) = ("eq amt 9", "eq cid 1", "eq amt 5");
-    let pairs = [
-        (t, t, Truth::True, Truth::True),
-        (t, u, Truth::Unknown, Truth::True),
-        (t, f, Truth::False, Truth::True),
-        (u, t, Truth::Unknown, Truth::True),
-        (u, u, Truth::Unknown, Truth::Unknown),
-        (u, f, Truth::False, Truth::Unknown),
-        (f, t, Truth::False, Truth::True),
-        (f, u, Truth::False, Truth::Unknown),
-        (f, f, Truth::False, Truth::False),
-    ];
-    for (x, y, and, or) in pairs {
-        let both = format!(in alloc; "and {x} {y}")?;
-        let either = format!(in alloc; "or {x} {y}")?;
-        assert_eq!(rt; truth_of(alloc, &tables, both.as_str())?, and, "{both}");
-        assert_eq!(rt; truth_of(alloc, &tables, either.as_str())?, or, "{either}");
-    }
-    let others = [
-        ("not eq amt 9", Truth::False),
-        ("not eq amt 5", Truth::True),
-        ("and0", Truth::True),
-        ("or0", Truth::False),
-        ("istrue eq amt 9", Truth::True),
-        ("istrue eq cid 1", Truth::False),
-        ("isfalse eq amt 5", Truth::True),
-        ("isfalse eq cid 1", Truth::False),
-        ("isunknown eq cid 1", Truth::True),
-        ("isunknown eq amt 9", Truth::False),
-        ("isnull cid", Truth::True),
-        ("isnull amt", Truth::False),
-        ("isnull null", Truth::True),
-        ("isnull 1+1*cid", Truth::True),
-        ("isnull 3", Truth::False),
-    ];
-    check(&rt, alloc, &tables, &others)
-}
-
-#[test]
-fn sides_compare_by_their_values(rt: HostRuntime) -> Result<(), Fail> {
-    let alloc = rt.alloc();
-    let tables = samples(alloc)?;
-    let cases = [
-        ("eq amt 8", Truth::False),
-        ("ne amt 9", Truth::False),
-        ("ne amt 8", Truth::True),
-        ("lt amt 10", Truth::True),
-        ("lt amt 9", Truth::False),
-        ("le amt 9", Truth::True),
-        ("le amt 8", Truth::False),
-        ("gt amt 8", Truth::True),
-        ("gt amt 9", Truth::False),
-        ("ge amt 9", Truth::True),
-        ("ge amt 10", Truth::False),
-        ("lt AMT amt", Truth::True),
-        ("lt CID amt", Truth::False),
-        ("eq cid CID", Truth::Unknown),
-        ("eq' NAME ab", Truth::True),
-        ("lt' NAME b", Truth::True),
-        ("lt' NAME a", Truth::False),
-        ("eq' name NAME", Truth::Unknown),
-        ("below AMT amt", Truth::True),
-        ("below 9 amt", Truth::False),
-        ("below cid amt", Truth::Unknown),
-        ("below null amt", Truth::Unknown),
-    ];
-    check(&rt, alloc, &tables, &cases)
-}
-
-#[test]
-fn sums_are_whole_numbers(rt: HostRuntime) -> Result<(), Fail> {
-    let alloc = rt.alloc();
-    let tables = samples(alloc)?;
-    let cases = [
-        ("eq CID 9223372036854775807", Truth::True),
-        ("eq 1+1*AMT -9223372036854775807", Truth::True),
-        ("gt 1+1*CID CID", Truth::True),
-        ("lt -1+1*AMT AMT", Truth::True),
-        ("eq 1*CID+1*AMT -1", Truth::True),
-        ("eq -9223372036854775807+1*CID 0", Truth::True),
-    ];
-    check(&rt, alloc, &tables, &cases)?;
-    let two = "2147483647*CID+2147483647*CID";
-    let most = format!(in alloc; "gt {two}+{two}+{two}+{two} 0")?;
-    assert_eq!(rt; truth_of(alloc, &tables, most.as_str())?, Truth::True);
-    let two = "2147483647*AMT+2147483647*AMT";
-    let least = format!(in alloc; "lt {two}+{two}+{two}+{two} 0")?;
-    assert_eq!(rt; truth_of(alloc, &tables, least.as_str())?, Truth::True);
-    Ok(())
+/// Whether the side of a comparison that a word writes is plain.
+fn is_plain(alloc: Global, tables: &Tables, word: &str, texts: bool) -> Result<bool, Fail>
+    requires { 0 < length tables.now }
+{
+    Ok(operand(alloc, tables, word, texts)?.plain())
 }
 
 #[test]
 fn sides_are_plain(rt: HostRuntime) -> Result<(), Fail> {
     let alloc = rt.alloc();
     let tables = samples(alloc)?;
-    assert!(rt; tables.len() == 1);
-    let cases = [
-        ("null", true),
-        ("amt", true),
-        ("3", true),
-        ("1*amt", false),
-        ("1+2", false),
-    ];
-    for (word, expected) in cases {
-        let side = operand(alloc, &tables, word, ColType::Integer)?;
-        assert_eq!(rt; side.plain(), expected, "{word}");
-    }
-    let side = operand(alloc, &tables, "ab", ColType::Text)?;
-    assert!(rt; side.plain());
+    assert!(rt; is_plain(alloc, &tables, "null", false)?);
+    assert!(rt; is_plain(alloc, &tables, "amt", false)?);
+    assert!(rt; is_plain(alloc, &tables, "cost", false)?);
+    assert!(rt; is_plain(alloc, &tables, "3", false)?);
+    assert!(rt; !is_plain(alloc, &tables, "1*amt", false)?);
+    assert!(rt; !is_plain(alloc, &tables, "1+2", false)?);
+    assert!(rt; is_plain(alloc, &tables, "ab", true)?);
     Ok(())
 }

@@ -1,5 +1,5 @@
 -- Each text reads as one thing.
-use Rattle.std.proofs.Common.{◌≡◌, Bool, true, false, Result, Ok, Err, refl, ap, sym, ◌∙◌, subst}
+use Rattle.std.proofs.Common.{◌≡◌, Bool, true, false, Result, Ok, Err, refl, ap, sym, ◌∙◌}
 use Rattle.std.specs.Str.{IsUtf8, is_utf8}
 use Rattle.std.specs.Str.Lossy.{utf8_valid_len}
 use Rattle.std.proofs.lemmas.Bool.{false≢true}
@@ -9,7 +9,7 @@ use Rattle.sq_parse.specs.declared.parser.ParseFault.TheVariants as fault
 use Rattle.sq_parse.specs.declared.tree.Script.{Script}
 use Rattle.sq_parse.specs.Form.{Text}
 use Rattle.sq_parse.specs.Parse.{parsed}
-use Rattle.sq_parse.specs.Fault.{IsFault, ReadsAs, OneReading}
+use Rattle.sq_parse.specs.Fault.{ReadsAs, OneReading}
 use Rattle.sq_parse.proofs.ParseLemmas.{spelled_by, parsed_by}
 use Rattle.sq_parse.proofs.FirstFault.{fault_is, fault_only, not_utf8_is, not_utf8_only}
 

@@ -18,8 +18,10 @@ left_in c = drawn_toks c.ahead
 
 -- the token that was drawn last can be cut, and places fit
 abbrev pub IsSound : Drawn → Type 0
-IsSound d = IsCut d.form d.text.now d.length × (1 ≤ d.length) × (d.length ≤ length d.text.now) × (d.at + d.length + length d.rest.now < 4294967295)
+IsSound d = IsCut d.form d.text.now d.length × (1 ≤ d.length) × (d.length ≤ length d.text.now)
+    × (d.at + d.length + length d.rest.now < 4294967295)
 
 -- and its mark is known
 abbrev pub ShowsAhead : Inside → Type 0
-ShowsAhead c = MatchOption c.ahead (c.mark ≡ k.End) (λ d. IsSound d × (c.mark ≡ mark_of d.form (take d.length d.text.now)))
+ShowsAhead c = MatchOption c.ahead (c.mark ≡ k.End) (λ d. IsSound d
+    × (c.mark ≡ mark_of d.form (take d.length d.text.now)))

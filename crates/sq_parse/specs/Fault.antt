@@ -103,7 +103,8 @@ number_of fault.Memory = 6
 
 -- a fault stands before another, or is at its place and of no greater number
 abbrev pub IsNoLater : ParseFault → ParseFault → Type 0
-IsNoLater f other = (fault_place f < fault_place other) ⊎ ((fault_place f ≡ fault_place other) × (number_of f ≤ number_of other))
+IsNoLater f other = (fault_place f < fault_place other)
+    ⊎ ((fault_place f ≡ fault_place other) × (number_of f ≤ number_of other))
 
 -- the fault of a text: the one with the least place, and at one place the one with the lower number
 pub record IsFault (z : Text) (f : ParseFault) : Type 0 where
@@ -117,4 +118,5 @@ ReadsAs z (Err f) = IsFault z f
 
 -- each text reads as one thing
 abbrev pub OneReading : Type 0
-OneReading = (z : Text) → (r : Result Script ParseFault) × ReadsAs z r × ((other : Result Script ParseFault) → ReadsAs z other → other ≡ r)
+OneReading = (z : Text) → (r : Result Script ParseFault) × ReadsAs z r
+    × ((other : Result Script ParseFault) → ReadsAs z other → other ≡ r)

@@ -45,7 +45,8 @@ symbol b next =
     if b == 60 then (form.Symbol, if next == 61 || next == 62 then 2 else 1)
     else (if b == 62 then (form.Symbol, if next == 61 then 2 else 1)
     else (if b == 33 then (if next == 61 then (form.Symbol, 2) else (form.Bad, 1))
-    else (if b == 44 || b == 59 || b == 46 || b == 42 || b == 40 || b == 41 || b == 43 || b == 45 || b == 61 then (form.Symbol, 1)
+    else (if b == 44 || b == 59 || b == 46 || b == 42 || b == 40 || b == 41 || b == 43 || b == 45 || b == 61
+    then (form.Symbol, 1)
     else (form.Bad, 1))))
 
 -- What begins a text that isn't empty, and its length. A comment runs to the end of its line; a

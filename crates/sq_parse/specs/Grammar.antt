@@ -46,7 +46,8 @@ alias = (λ p. p.1) ⊛ (optional (mark k.As) ⊗ name)
 
 -- name "." "*" | column [ [ AS ] name ]
 abbrev pub item : Rule Item
-item = (λ p. shown.AllOf p.0) ⊛ (name ⊗ after k.Dot (mark k.Star)) ⊕ (λ p. shown.Col p.0 p.1) ⊛ (column ⊗ optional alias)
+item = (λ p. shown.AllOf p.0) ⊛ (name ⊗ after k.Dot (mark k.Star)) ⊕ (λ p. shown.Col p.0 p.1)
+    ⊛ (column ⊗ optional alias)
 
 -- "*" | item { "," item }
 abbrev pub select_list : Rule Items
@@ -101,7 +102,8 @@ module _ (limits : Limits) where
 
   -- operand cmp operand
   abbrev pub comparison : Rule Tree
-  comparison = (λ p. t.Compare (begin_of p.0) p.0 (comparison_by p.1.0.mark) p.1.1) ⊛ (operand ⊗ (token is_comparison ⊗ operand))
+  comparison = (λ p. t.Compare (begin_of p.0) p.0 (comparison_by p.1.0.mark) p.1.1)
+      ⊛ (operand ⊗ (token is_comparison ⊗ operand))
 
   -- operand [ NOT ] BETWEEN operand AND operand
   abbrev pub between : Rule Tree
@@ -115,7 +117,8 @@ module _ (limits : Limits) where
 
   -- operand IS [ NOT ] NULL
   abbrev pub null_test : Rule Tree
-  null_test = (λ p. t.IsNull (begin_of p.0) (is_some p.1.0) p.0) ⊛ (operand ⊗ after k.Is (optional (mark k.Not) ⊗ mark k.Null))
+  null_test = (λ p. t.IsNull (begin_of p.0) (is_some p.1.0) p.0)
+      ⊛ (operand ⊗ after k.Is (optional (mark k.Not) ⊗ mark k.Null))
 
   -- name "(" simple { "," simple } ")"
   abbrev pub call : Rule Tree
@@ -152,9 +155,12 @@ module _ (limits : Limits) where
   -- SELECT [ ALL ] items FROM source { join } [ WHERE cond ] [ ORDER BY key { "," key } ]
   abbrev pub statement : ℕ → Rule Statement
   statement d = (λ p. statement_of p.1.0 p.1.1.0 p.1.1.1.0 p.1.1.1.1)
-      ⊛ after k.Select (optional (mark k.All) ⊗ (select_list ⊗ (after k.From ((λ p. p.0 ∷ p.1) ⊛ (source ⊗ many (join d)))
-      ⊗ (optional (after k.Where (condition d)) ⊗ (λ keys. unwrap_or keys []) ⊛ optional (after k.Order (after k.By (list_of k.Comma key)))))))
+      ⊛ after k.Select (optional (mark k.All) ⊗ (select_list
+      ⊗ (after k.From ((λ p. p.0 ∷ p.1) ⊛ (source ⊗ many (join d)))
+      ⊗ (optional (after k.Where (condition d)) ⊗ (λ keys. unwrap_or keys [])
+      ⊛ optional (after k.Order (after k.By (list_of k.Comma key)))))))
 
   -- statement { ";" statement } [ ";" ]
   abbrev pub script : ℕ → Rule Script
-  script d = (λ p. record { statements = p.0.0 ∷ p.0.1 }) ⊛ (separated k.Semicolon (statement d) ⊗ optional (mark k.Semicolon))
+  script d = (λ p. record { statements = p.0.0 ∷ p.0.1 })
+      ⊛ (separated k.Semicolon (statement d) ⊗ optional (mark k.Semicolon))

@@ -24,10 +24,13 @@ words =
     (codes "all", k.All) ∷ (codes "and", k.And) ∷ (codes "as", k.As) ∷ (codes "asc", k.Asc)
     ∷ (codes "between", k.Between) ∷ (codes "by", k.By) ∷ (codes "case", k.Reserved) ∷ (codes "cast", k.Reserved)
     ∷ (codes "cross", k.Cross) ∷ (codes "desc", k.Desc) ∷ (codes "distinct", k.Reserved) ∷ (codes "exists", k.Reserved)
-    ∷ (codes "false", k.False) ∷ (codes "first", k.First) ∷ (codes "from", k.From) ∷ (codes "full", k.Reserved) ∷ (codes "group", k.Reserved)
+    ∷ (codes "false", k.False) ∷ (codes "first", k.First) ∷ (codes "from", k.From) ∷ (codes "full", k.Reserved)
+    ∷ (codes "group", k.Reserved)
     ∷ (codes "having", k.Reserved) ∷ (codes "in", k.In) ∷ (codes "inner", k.Inner) ∷ (codes "is", k.Is)
-    ∷ (codes "join", k.Join) ∷ (codes "last", k.Last) ∷ (codes "left", k.Reserved) ∷ (codes "like", k.Reserved) ∷ (codes "limit", k.Reserved)
-    ∷ (codes "natural", k.Reserved) ∷ (codes "not", k.Not) ∷ (codes "null", k.Null) ∷ (codes "nulls", k.Nulls) ∷ (codes "on", k.On)
+    ∷ (codes "join", k.Join) ∷ (codes "last", k.Last) ∷ (codes "left", k.Reserved) ∷ (codes "like", k.Reserved)
+    ∷ (codes "limit", k.Reserved)
+    ∷ (codes "natural", k.Reserved) ∷ (codes "not", k.Not) ∷ (codes "null", k.Null) ∷ (codes "nulls", k.Nulls)
+    ∷ (codes "on", k.On)
     ∷ (codes "or", k.Or) ∷ (codes "order", k.Order) ∷ (codes "outer", k.Reserved) ∷ (codes "right", k.Reserved)
     ∷ (codes "select", k.Select) ∷ (codes "true", k.True) ∷ (codes "union", k.Reserved) ∷ (codes "unknown", k.Unknown)
     ∷ (codes "using", k.Reserved) ∷ (codes "where", k.Where)
@@ -73,7 +76,8 @@ abbrev pub is_sign : Mark → Bool
 is_sign m = is k.Plus m || is k.Minus m
 
 abbrev pub is_comparison : Mark → Bool
-is_comparison m = is k.Equal m || is k.NotEqual m || is k.Less m || is k.LessOrEqual m || is k.Greater m || is k.GreaterOrEqual m
+is_comparison m = is k.Equal m || is k.NotEqual m || is k.Less m || is k.LessOrEqual m || is k.Greater m
+    || is k.GreaterOrEqual m
 
 abbrev pub is_truth : Mark → Bool
 is_truth m = is k.True m || is k.False m || is k.Unknown m

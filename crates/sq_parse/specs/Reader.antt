@@ -70,7 +70,8 @@ column_item c = (λ a. shown.Col c a) <$> optional_alias
 
 -- what comes behind a name and a dot
 unfoldable pub behind_dot : Name → Parser Item
-behind_dot n = choose (is k.Star) ((λ _. shown.AllOf n) <$> mark k.Star) (name >>= (λ m. column_item (column_of n (Some m))))
+behind_dot n = choose (is k.Star) ((λ _. shown.AllOf n) <$> mark k.Star)
+    (name >>= (λ m. column_item (column_of n (Some m))))
 
 unfoldable pub behind_name : Name → Parser Item
 behind_name n = choose (is k.Dot) (after k.Dot (behind_dot n)) (column_item (column_of n None))
@@ -96,7 +97,8 @@ unfoldable pub nulls_first : Parser (Option Bool)
 nulls_first = (λ end. option_map (λ e. is k.First e.mark) end) <$> optional (is k.Nulls) (after k.Nulls (token is_end))
 
 unfoldable pub key : Parser OrderItem
-key = (λ p. record { column = p.0; way = record { descending = p.1.0; nulls_first = unwrap_or p.1.1 p.1.0 } }) <$> (column <+> (falls <+> nulls_first))
+key = (λ p. record { column = p.0; way = record { descending = p.1.0; nulls_first = unwrap_or p.1.1 p.1.0 } })
+    <$> (column <+> (falls <+> nulls_first))
 
 unfoldable pub keys : Parser (List OrderItem)
 keys = list_of k.Comma key
@@ -140,7 +142,8 @@ module _ (limits : Limits) where
   sum_from at first = (λ more. o.Sum at (first ∷ more)) <$> many is_sign signed_term
 
   unfoldable pub sum : Parser Operand
-  sum = choose is_sign (token is_sign >>= (λ s. term >>= (λ first. sum_from s.at (signed s first)))) (term >>= (λ first. sum_from first.at first))
+  sum = choose is_sign (token is_sign >>= (λ s. term >>= (λ first. sum_from s.at (signed s first))))
+      (term >>= (λ first. sum_from first.at first))
 
   unfoldable pub operand : Parser Operand
   operand = choose is_literal literal sum
@@ -165,16 +168,19 @@ module _ (limits : Limits) where
   comparison x = (λ p. t.Compare (begin_of x) x (comparison_by p.0.mark) p.1) <$> (token is_comparison <+> operand)
 
   unfoldable pub null_test : Operand → Parser Tree
-  null_test x = (λ p. t.IsNull (begin_of x) (is_some p.0) x) <$> after k.Is (optional (is k.Not) (mark k.Not) <+> mark k.Null)
+  null_test x = (λ p. t.IsNull (begin_of x) (is_some p.0) x)
+      <$> after k.Is (optional (is k.Not) (mark k.Not) <+> mark k.Null)
 
   unfoldable pub between : Operand → Bool → Parser Tree
-  between x negated = (λ p. t.Between (begin_of x) negated x p.0 p.1) <$> (after k.Between operand <+> after k.And operand)
+  between x negated = (λ p. t.Between (begin_of x) negated x p.0 p.1)
+      <$> (after k.Between operand <+> after k.And operand)
 
   unfoldable pub within : Operand → Bool → Parser Tree
   within x negated = (λ all. t.Within (begin_of x) negated x all) <$> after k.In (enclosed operands)
 
   unfoldable pub ranged : Operand → Parser Tree
-  ranged x = optional (is k.Not) (mark k.Not) >>= (λ n. choose (is k.Between) (between x (is_some n)) (within x (is_some n)))
+  ranged x = optional (is k.Not) (mark k.Not)
+      >>= (λ n. choose (is k.Between) (between x (is_some n)) (within x (is_some n)))
 
   unfoldable pub behind_subject : Operand → Parser Tree
   behind_subject x = choose is_comparison (comparison x) (choose (is k.Is) (null_test x) (ranged x))
@@ -186,7 +192,8 @@ module _ (limits : Limits) where
   primary inner = choose (is k.Open) inner predicate
 
   unfoldable pub test : Parser Tree → Parser Tree
-  test inner = (λ p. tested p.0 p.1) <$> (primary inner <+> optional (is k.Is) (after k.Is (optional (is k.Not) (mark k.Not) <+> token is_truth)))
+  test inner = (λ p. tested p.0 p.1)
+      <$> (primary inner <+> optional (is k.Is) (after k.Is (optional (is k.Not) (mark k.Not) <+> token is_truth)))
 
   unfoldable pub negation : Parser Tree → Parser Tree → Parser Tree
   negation lower inner = choose (is k.Not) (t.Not <$> lower) (test inner)
@@ -219,10 +226,12 @@ module _ (limits : Limits) where
   condition d = disjunction (neg d)
 
   unfoldable pub joined : ℕ → Parser Source
-  joined d = (λ p. joined_on p.1.0 p.1.1) <$> (optional (is k.Inner) (mark k.Inner) <+> (after k.Join source <+> after k.On (condition d)))
+  joined d = (λ p. joined_on p.1.0 p.1.1)
+      <$> (optional (is k.Inner) (mark k.Inner) <+> (after k.Join source <+> after k.On (condition d)))
 
   unfoldable pub join : ℕ → Parser Source
-  join d = choose (is k.Comma) (after k.Comma source) (choose (is k.Cross) (after k.Cross (after k.Join source)) (joined d))
+  join d = choose (is k.Comma) (after k.Comma source)
+      (choose (is k.Cross) (after k.Cross (after k.Join source)) (joined d))
 
   unfoldable pub where_condition : ℕ → Parser (Option Tree)
   where_condition d = optional (is k.Where) (after k.Where (condition d))
@@ -232,7 +241,8 @@ module _ (limits : Limits) where
 
   unfoldable pub statement : ℕ → Parser Statement
   statement d = (λ p. statement_of p.1.0 p.1.1.0 p.1.1.1.0 p.1.1.1.1)
-      <$> after k.Select (optional (is k.All) (mark k.All) <+> (select_list <+> (after k.From (sources d) <+> (where_condition d <+> order))))
+      <$> after k.Select (optional (is k.All) (mark k.All)
+      <+> (select_list <+> (after k.From (sources d) <+> (where_condition d <+> order))))
 
   -- why no further statement is read
   abbrev pub no_more : Parser (List Statement)
@@ -240,7 +250,8 @@ module _ (limits : Limits) where
 
   -- behind a semicolon, the end or one more statement
   abbrev pub after_semicolon : Parser (List Statement) → Parser (List Statement)
-  after_semicolon more = choose (is k.Semicolon) (mark k.Semicolon >>= (λ _. λ ts. if done ts then pure [] ts else more ts)) (pure [])
+  after_semicolon more = choose (is k.Semicolon)
+      (mark k.Semicolon >>= (λ _. λ ts. if done ts then pure [] ts else more ts)) (pure [])
 
   -- the statements behind the first, at most this many
   unfoldable pub statements : ℕ → ℕ → Parser (List Statement)
@@ -249,4 +260,5 @@ module _ (limits : Limits) where
 
   -- a whole list of tokens, as a script of a statement and at most this many more
   unfoldable pub script : ℕ → ℕ → Parser Script
-  script d n = statement d >>= (λ s. statements d n >>= (λ more. λ ts. if done ts then Ok (record { statements = s ∷ more }, ts) else Err (stop.Syntax, ts)))
+  script d n = statement d >>= (λ s. statements d n
+      >>= (λ more. λ ts. if done ts then Ok (record { statements = s ∷ more }, ts) else Err (stop.Syntax, ts)))

@@ -1,5 +1,5 @@
--- For the laws and proofs of the parser: what reading functions are made of. One answers what it read and the tokens that are left, or why
--- it stopped and the tokens from there on.
+-- For the laws and proofs of the parser: what reading functions are made of. One answers what it read and the tokens
+-- that are left, or why it stopped and the tokens from there on.
 use Rattle.std.specs.Prelude.{◌≡◌, ◌≢◌, Bool, true, false, if◌then◌else◌, ℕ, zero, suc, List, [], ◌∷◌, ◌++◌, length, drop, Option, Some, None, Result, Ok, Err}
 use Rattle.sq_parse.specs.declared.mark.Mark.{Mark}
 use Rattle.sq_parse.specs.declared.mark.Mark.TheVariants as k
@@ -45,7 +45,8 @@ mark wanted = token (is wanted)
 
 abbrev pub number : (ℕ → Bool) → Parser Tok
 number within = λ ts.
-    if is k.Number (next ts) then (if within (head ts).number then Ok (head ts, behind ts) else Err (stop.NumberTooLarge, ts))
+    if is k.Number (next ts) then (if within (head ts).number then Ok (head ts, behind ts)
+    else Err (stop.NumberTooLarge, ts))
     else Err (stop.Syntax, ts)
 
 -- one of two, by the next token
@@ -92,5 +93,6 @@ Expects wanted old (Err s) new = (is wanted (next old) ≡ false) × (s ≡ stop
 
 -- What a function that reads more items behind some ensures: those items stay in front.
 abbrev pub ReadsMore : {A : Type 0} → List A → Outcome (List A) → Result (List A) Stop → List Tok → Type 0
-ReadsMore found outcome (Ok all) new = (all ≡ found ++ drop (length found) all) × (outcome ≡ Ok (drop (length found) all, new))
+ReadsMore found outcome (Ok all) new = (all ≡ found ++ drop (length found) all)
+    × (outcome ≡ Ok (drop (length found) all, new))
 ReadsMore found outcome (Err s) new = s ≢ stop.Memory → outcome ≡ Err (s, new)

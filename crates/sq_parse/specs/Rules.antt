@@ -20,7 +20,8 @@ abbrev pub number : (ℕ → Bool) → Rule Tok
 number within ts t = (ts ≡ t ∷ []) × (is k.Number t.mark ≡ true) × (within t.number ≡ true)
 
 -- the tokens are those of one part and then those of another
-pub record Then {A B : Type 0} (l : List Tok → A → Type 0) (r : List Tok → B → Type 0) (ts : List Tok) (a : A) (b : B) : Type 0 where
+pub record Then {A B : Type 0} (l : List Tok → A → Type 0) (r : List Tok → B → Type 0) (ts : List Tok) (a : A) (b : B)
+    : Type 0 where
   pub first : List Tok
   pub second : List Tok
   pub parts : ts ≡ first ++ second

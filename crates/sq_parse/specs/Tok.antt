@@ -32,7 +32,12 @@ number_in form.Number z = decimal z
 number_in _ z = 0
 
 abbrev pub tok_of : Piece → Tok
-tok_of p = record { at = p.at; mark = mark_of p.form p.bytes; text = content p.form p.bytes; number = number_in p.form p.bytes }
+tok_of p = record {
+  at = p.at;
+  mark = mark_of p.form p.bytes;
+  text = content p.form p.bytes;
+  number = number_in p.form p.bytes;
+}
 
 -- the tokens of a text that begins at a place
 unfoldable pub toks : ℕ → Text → List Tok

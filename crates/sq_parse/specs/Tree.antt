@@ -41,7 +41,12 @@ abbrev pub number_term : Tok → Option ColRef → RawTerm
 number_term n column = record { at = n.at; negative = false; number = Some (pos n.number); column = column }
 
 abbrev pub column_term : ColRef → Option Tok → RawTerm
-column_term c factor = record { at = column_place c; negative = false; number = option_map (λ n. pos n.number) factor; column = Some c }
+column_term c factor = record {
+  at = column_place c;
+  negative = false;
+  number = option_map (λ n. pos n.number) factor;
+  column = Some c;
+}
 
 -- a term behind a sign
 abbrev pub signed : Tok → RawTerm → RawTerm
@@ -99,4 +104,9 @@ abbrev pub way_of : Bool → Option Bool → SortWay
 way_of falls nulls_first = record { descending = falls; nulls_first = unwrap_or nulls_first falls }
 
 abbrev pub statement_of : Items → List Source → Option Tree → List OrderItem → Statement
-statement_of selected sources condition keys = record { items = selected; sources = sources; condition = condition; order = keys }
+statement_of selected sources condition keys = record {
+  items = selected;
+  sources = sources;
+  condition = condition;
+  order = keys;
+}

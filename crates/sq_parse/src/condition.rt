@@ -119,7 +119,8 @@ fn more_negations(
     depth: u8,
     mut found: List<Tree>,
 ) -> Result<List<Tree>, Stop>
-    ensures { ReadsMore found (reading.many (is Mark.And) (reading.after Mark.And (spec.neg shipped depth)) tokens.old) result tokens.new }
+    ensures { ReadsMore found
+        (reading.many (is Mark.And) (reading.after Mark.And (spec.neg shipped depth)) tokens.old) result tokens.new }
 {
     'more: while tokens.sees(Mark::And) {
         tokens.advance();
@@ -150,7 +151,9 @@ fn more_conjunctions(
     depth: u8,
     mut found: List<Tree>,
 ) -> Result<List<Tree>, Stop>
-    ensures { ReadsMore found (reading.many (is Mark.Or) (reading.after Mark.Or (spec.conjunction_at shipped depth)) tokens.old) result tokens.new }
+    ensures { ReadsMore found
+        (reading.many (is Mark.Or) (reading.after Mark.Or (spec.conjunction_at shipped depth)) tokens.old)
+        result tokens.new }
 {
     'more: while tokens.sees(Mark::Or) {
         tokens.advance();

@@ -5,7 +5,7 @@ ghost use Rattle.sq_parse.specs.Form as spec;
 ghost use Rattle.std.specs.Prelude.{◌≢◌, ◌⊎◌, ◌==◌, ◌&&◌};
 
 /// What a text begins with: blanks or a comment, a token's form, or nothing that is a token.
-#[derive(Clone, Copy, Debug, PartialEq, Eq)]
+#[derive(Clone, Copy)]
 pub enum Form {
     Blank,
     Word,
@@ -16,7 +16,7 @@ pub enum Form {
     Bad,
 }
 
-#[derive(Clone, Copy, Debug)]
+#[derive(Clone, Copy)]
 enum Class {
     Blank,
     Line,
@@ -85,7 +85,8 @@ fn quoted(form: Form, least: usize, text: &[u8]) -> Front
     requires { 0 < length text.now }
     ensures value { result ≡ spec.quoted form least text.now }
     ensures within { (1 ≤ result.1) × (result.1 ≤ length text.now) }
-    ensures ends { result.0 ≢ Form.Bad → (least + 1 ≤ result.1) × (slice_index text.now (result.1 - 1) ≡ slice_index text.now 0) }
+    ensures ends { result.0 ≢ Form.Bad → (least + 1 ≤ result.1)
+        × (slice_index text.now (result.1 - 1) ≡ slice_index text.now 0) }
 {
     match closing(text[0], &text[1..]) {
         Some(end) if end >= least => (form, end + 1),

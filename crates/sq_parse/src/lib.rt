@@ -22,6 +22,3 @@ pub use token::{Span, Token, TokenKind, tokens};
 pub use tree::{
     ColRef, Item, Items, Name, Operand, OrderItem, RawTerm, Script, Source, Statement, Tree,
 };
-
-#[cfg(test)]
-mod tests;

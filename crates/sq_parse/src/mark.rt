@@ -6,7 +6,7 @@ ghost use Rattle.sq_parse.specs.Mark as spec;
 use crate::form::Form;
 
 /// What a token is to the grammar: a keyword, a name, a literal or a symbol.
-#[derive(Clone, Copy, Debug, PartialEq, Eq)]
+#[derive(Clone, Copy, PartialEq, Eq)]
 pub enum Mark {
     All,
     And,

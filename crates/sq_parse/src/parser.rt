@@ -89,9 +89,11 @@ pub fn parse(alloc: Global, text: &[u8]) -> Result<Script, ParseFault>
     requires { length text.now < 4294967295 }
     ensures utf8 { IfOk result (λ s. IsUtf8 text.now) }
     ensures spelled { IfOk result (λ s. Spelled text.now s) }
-    ensures every { (s : Script) → IsUtf8 text.now → Spelled text.now s → MatchResult result (λ found. found ≡ s) (λ f. f ≡ ParseFault.Memory) }
+    ensures every { (s : Script) → IsUtf8 text.now → Spelled text.now s
+        → MatchResult result (λ found. found ≡ s) (λ f. f ≡ ParseFault.Memory) }
     ensures fault { IfErr result (λ f. f ≢ ParseFault.Memory → IsFault text.now f) }
-    ensures every_fault { (f : ParseFault) → IsFault text.now f → MatchResult result (λ s. ⊥) (λ found. (found ≡ f) ⊎ (found ≡ ParseFault.Memory)) }
+    ensures every_fault { (f : ParseFault) → IsFault text.now f
+        → MatchResult result (λ s. ⊥) (λ found. (found ≡ f) ⊎ (found ≡ ParseFault.Memory)) }
     ensures not_utf8 { (IsUtf8 text.now → ⊥) → result ≡ Err (ParseFault.NotUtf8 (utf8_valid_len text.now)) }
     ensures stops { IsUtf8 text.now → spec.Answers text.now result }
 {

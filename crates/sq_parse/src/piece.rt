@@ -8,7 +8,7 @@ use crate::form::{Form, front};
 
 /// The next token of a text: its place, form and length, the text from it on, and the text behind
 /// it. What is no token ends a text, so nothing is behind it.
-#[derive(Clone, Copy, Debug)]
+#[derive(Clone, Copy)]
 pub struct Drawn<'a> {
     pub at: u32,
     pub form: Form,
@@ -23,7 +23,8 @@ pub fn draw(text: &str, at: u32) -> Option<Drawn<'_>>
     requires { at + length text.now < 4294967295 }
     ensures drawn { spec.IsDrawn at text.entry.now result }
     ensures cut { IfSome result (λ d. IsCut d.form d.text.now d.length) }
-    ensures within { IfSome result (λ d. (at ≤ d.at) × (1 ≤ d.length) × (d.length ≤ length d.text.now) × (d.at + d.length + length d.rest.now ≤ at + length text.entry.now)) }
+    ensures within { IfSome result (λ d. (at ≤ d.at) × (1 ≤ d.length) × (d.length ≤ length d.text.now)
+        × (d.at + d.length + length d.rest.now ≤ at + length text.entry.now)) }
 {
     let (mut text, mut at) = (text, at);
     while !text.is_empty() {

@@ -10,7 +10,8 @@ use std::alloc::Global;
 // The place behind the first quote, if there is one.
 fn past_quote(quote: u8, text: &str) -> Option<usize>
     requires { quote < 128 }
-    ensures parts { MatchOption result (spec.undoubled quote false text.now ≡ text.now) (λ n. spec.undoubled quote false text.now ≡ take n text.now ++ spec.undoubled quote true (drop n text.now)) }
+    ensures parts { MatchOption result (spec.undoubled quote false text.now ≡ text.now)
+        (λ n. spec.undoubled quote false text.now ≡ take n text.now ++ spec.undoubled quote true (drop n text.now)) }
     ensures cut { MatchOption result (length text.now ≤ length text.now) (λ n. (1 ≤ n) × IsCharBoundary text.now n) }
 {
     let bytes = text.as_bytes();

@@ -21,6 +21,14 @@ const MAX_DEPTH: u8 = 64;
 /// How many statements a script may have.
 const MAX_STATEMENTS: u8 = 64;
 
+// ON and its condition.
+fn joined_by(alloc: Global, tokens: &mut Cursor<'_>) -> Result<Tree, Stop>
+    ensures { Reads (reading.after Mark.On (spec.condition shipped 64) tokens.old) result tokens.new }
+{
+    tokens.expect(Mark::On)?;
+    condition(alloc, tokens, MAX_DEPTH)
+}
+
 // A source that is joined on a condition.
 #[tactic(auto, unfolding(crate::specs::Reader::joined))]
 fn joined(alloc: Global, tokens: &mut Cursor<'_>) -> Result<Source, Stop>
@@ -28,10 +36,14 @@ fn joined(alloc: Global, tokens: &mut Cursor<'_>) -> Result<Source, Stop>
 {
     tokens.eat(Mark::Inner);
     tokens.expect(Mark::Join)?;
-    let plain = source(alloc, tokens)?;
-    tokens.expect(Mark::On)?;
-    let on = Some(condition(alloc, tokens, MAX_DEPTH)?);
-    Ok(Source { on, ..plain })
+    let mut found = source(alloc, tokens)?;
+    match joined_by(alloc, tokens) {
+        Ok(on) => {
+            found.on = Some(on);
+            Ok(found)
+        }
+        Err(stop) => Err(stop),
+    }
 }
 
 // A source behind the first, and how it is joined.

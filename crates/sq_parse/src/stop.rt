@@ -3,7 +3,7 @@ use sq_value::Memory;
 use std::alloc::AllocError;
 
 /// Why reading stopped at the token where the cursor stands.
-#[derive(Clone, Copy, Debug, PartialEq, Eq)]
+#[derive(Clone, Copy)]
 pub enum Stop {
     Memory,
     Syntax,

@@ -36,14 +36,15 @@ abbrev pub units_written : ℕ → List ℕ → List ℕ → ℕ
 units_written scale whole fraction = digits_value 10 (whole ++ fraction) * 10 ^ (scale - length fraction)
 
 -- a number with its sign
-abbrev pub signed : Bool → ℕ → ℤ
-signed negative size = if negative then neg_ℤ (pos size) else pos size
+abbrev pub with_sign : Bool → ℕ → ℤ
+with_sign negative size = if negative then neg_ℤ (pos size) else pos size
 
 -- the decimal number of a sign and of what stands before and behind a point, or why there is none
 abbrev pub decimal_of : ℕ → Bool → List ℕ → Option (List ℕ) → Result Dec DecFault
 decimal_of scale negative whole behind =
-    let units = signed negative (units_written scale whole (digits_or_none behind)) in
-    if is_decimal scale whole behind then (if is_i64 units then Ok record { units = units; scale = scale } else Err OutOfRange)
+    let units = with_sign negative (units_written scale whole (digits_or_none behind)) in
+    if is_decimal scale whole behind then
+    (if is_i64 units then Ok record { units = units; scale = scale } else Err OutOfRange)
     else Err NotADecimal
 
 -- the decimal number that a text writes at a scale, or why it writes none
@@ -65,4 +66,5 @@ fraction_text (suc places) n = 46 ∷ last_digits (suc places) n
 -- the text of a decimal number: its sign if it is negative, the whole part, and as many digits more as its scale says
 unfoldable pub decimal_text : Dec → List ℕ
 decimal_text d =
-    sign_text (is_negative d.units) ++ decimal (unsigned_abs d.units / 10 ^ d.scale) ++ fraction_text d.scale (unsigned_abs d.units)
+    sign_text (is_negative d.units)
+    ++ decimal (unsigned_abs d.units / 10 ^ d.scale) ++ fraction_text d.scale (unsigned_abs d.units)

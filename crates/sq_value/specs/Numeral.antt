@@ -22,5 +22,6 @@ is_i64 (negsuc n) = nat_lt n 9223372036854775808
 -- the number that a text writes, or why it writes none
 unfoldable pub number_read : List ℕ → Result ℤ IntFault
 number_read text =
-    if is_numeral text then (if is_i64 (signed_digits_value 10 text) then Ok (signed_digits_value 10 text) else Err OutOfRange)
+    if is_numeral text then
+    (if is_i64 (signed_digits_value 10 text) then Ok (signed_digits_value 10 text) else Err OutOfRange)
     else Err NotANumber

@@ -1,5 +1,5 @@
 //! Decimal numbers read from texts.
-ghost use Rattle.std.specs.Prelude.{◌≡◌, ◌+◌, ◌*◌, ◌^◌, ◌<◌, ◌≤◌, ◌&&◌, ◌++◌, length, nat_lt, SomeIff, IsTrue};
+ghost use Rattle.std.specs.Prelude.{◌≡◌, ◌+◌, ◌*◌, ◌^◌, ◌<◌, ◌≤◌, ◌&&◌, ◌++◌, length, nat_lt, SomeIff, IfOk, IsTrue};
 ghost use Rattle.std.specs.Option.{option_copied};
 ghost use Rattle.std.specs.Char.{is_ascii_digit, digit_value};
 ghost use Rattle.std.specs.Str.Parse.{starts_with_minus, digits_value, digits_value_after};
@@ -110,8 +110,8 @@ fn units_written(scale: u8, whole: &[u8], fraction: &[u8]) -> Option<u64>
 }
 
 // A number with its sign. None where 64 bits don't hold it.
-fn signed(negative: bool, size: u64) -> Option<i64>
-    ensures { let number = spec.signed negative size in SomeIff result (IsTrue (is_i64 number)) number }
+fn with_sign(negative: bool, size: u64) -> Option<i64>
+    ensures { let number = spec.with_sign negative size in SomeIff result (IsTrue (is_i64 number)) number }
 {
     let number = if negative {
         -i128::from(size)
@@ -137,10 +137,11 @@ fn units_of(scale: u8, negative: bool, whole: &[u8], fraction: &[u8]) -> Option<
     requires fraction { IsTrue (all_digits fraction.now) }
     requires few { length fraction.now ≤ scale }
     requires scale { scale ≤ 6 }
-    ensures { let units = spec.signed negative (spec.units_written scale whole.now fraction.now) in SomeIff result (IsTrue (is_i64 units)) units }
+    ensures { let units = spec.with_sign negative (spec.units_written scale whole.now fraction.now) in
+        SomeIff result (IsTrue (is_i64 units)) units }
 {
     match units_written(scale, whole, fraction) {
-        Some(size) => signed(negative, size),
+        Some(size) => with_sign(negative, size),
         None => None,
     }
 }
@@ -153,7 +154,8 @@ fn decimal_of(
     behind: Option<&[u8]>,
 ) -> Result<Dec, DecFault>
     requires { scale ≤ 6 }
-    ensures { result ≡ spec.decimal_of scale negative whole.now (option_copied behind.entry) }
+    ensures number { result ≡ spec.decimal_of scale negative whole.now (option_copied behind.entry) }
+    ensures scale { IfOk result (λ d. d.scale ≡ scale) }
 {
     if !is_decimal(scale, whole, behind) {
         return Err(DecFault::NotADecimal);
@@ -173,7 +175,8 @@ fn decimal_of(
 /// 9,223,372,036,854,775,807.
 pub fn read_decimal(text: &str, scale: u8) -> Result<Dec, DecFault>
     requires { scale ≤ 6 }
-    ensures { result ≡ decimal_read scale text.now }
+    ensures number { result ≡ decimal_read scale text.now }
+    ensures scale { IfOk result (λ d. d.scale ≡ scale) }
 {
     let text = text.as_bytes();
     let (whole, behind) = parts(without_sign(text));

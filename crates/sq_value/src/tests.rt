@@ -448,7 +448,8 @@ impl Predicates for Same {
 
     ghost gives = { λ number x y. compared x y cmp.Eq };
 
-    ghost kinds_of = { λ s number. if number == 0 then Some record { first = kind.Integer; second = kind.Integer } else None };
+    ghost kinds_of = { λ s number.
+        if number == 0 then Some record { first = kind.Integer; second = kind.Integer } else None };
 
     ghost number_of = { λ s name. if is_same_name name (codes "same") then Some 0 else None };
 

@@ -3,10 +3,10 @@
 //! An operator stands before its parts: `not eq cid 1` is NOT cid = 1. A sum is one word, as
 //! `8*amt+-1*amt`. Columns in small letters are of alias 0, and columns in capitals of alias 1.
 //! `eq'` and `lt'` compare texts. What is read fits the tables.
-ghost use Rattle.std.specs.Prelude.{◌<◌, length, All, IfOk, IfSome};
+ghost use Rattle.std.specs.Prelude.{◌≡◌, ◌<◌, length, All, IfOk, IfSome};
 ghost use Rattle.sq_value.specs.declared.value.ColType.TheVariants as kinds;
-ghost use Rattle.sq_expr.specs.Fits.{FitsSide, FitsArg, FitsTerm};
-ghost use Rattle.sq_expr.specs.Samples.{IsSample, IsSampleColumn};
+ghost use Rattle.sq_expr.specs.Fits.{Numbers, FitsSide, FitsArg, FitsTerm, class_of};
+ghost use Rattle.sq_expr.specs.Samples.{IsSample, IsSampleColumn, class_named};
 ghost use Rattle.sq_expr.specs.declared.cond.Term.{Term};
 
 use crate::{Arg, ColumnOf, Cond, Side, Term};
@@ -17,16 +17,22 @@ use std::mem;
 use std::test::Fail;
 
 /// The alias and the number of the column that a word names.
-fn place_of(word: &str) -> Option<(u8, usize)>
+fn column_place(word: &str) -> Option<(u8, usize)>
     ensures { IfSome result (λ p. p.0 < 2) }
 {
     match word {
         "cid" => Some((0, 0)),
         "amt" => Some((0, 1)),
         "name" => Some((0, 2)),
+        "cost" => Some((0, 3)),
+        "rate" => Some((0, 4)),
+        "top" => Some((0, 5)),
         "CID" => Some((1, 0)),
         "AMT" => Some((1, 1)),
         "NAME" => Some((1, 2)),
+        "COST" => Some((1, 3)),
+        "RATE" => Some((1, 4)),
+        "TOP" => Some((1, 5)),
         _ => None,
     }
 }
@@ -36,10 +42,20 @@ fn column(tables: &Tables, word: &str) -> Option<(ColumnOf, ColType)>
     requires { 0 < length tables.now }
     ensures { IfSome result (λ p. IsSampleColumn tables.now p.0 p.1) }
 {
-    let (alias, place) = place_of(word)?;
+    let (alias, place) = column_place(word)?;
     let kind = tables.get(0).columns().get(place)?.kind;
     let column = place as u32;
     Some((ColumnOf { alias, column }, kind))
+}
+
+/// Whether a type is that of texts.
+fn is_text(kind: ColType) -> bool
+    ensures { class_named result ≡ class_of kind }
+{
+    match kind {
+        ColType::Text => true,
+        ColType::Integer | ColType::Decimal(_) => false,
+    }
 }
 
 /// A term of a sum: an integer, or an integer times a column.
@@ -54,7 +70,7 @@ fn term(tables: &Tables, word: &str) -> Option<Term>
     };
     let factor = read_int(factor).ok()?;
     let (column, kind) = column(tables, name)?;
-    if kind != ColType::Integer || factor < -2147483647 || factor > 2147483647 {
+    if is_text(kind) || factor < -2147483647 || factor > 2147483647 {
         return None;
     }
     let column = Some(column);
@@ -76,7 +92,7 @@ fn terms(alloc: Global, tables: &Tables, word: &str) -> Result<Vec<Term>, Fail>
 /// The sum that a word writes.
 fn sum(alloc: Global, tables: &Tables, word: &str) -> Result<Side, Fail>
     requires { 0 < length tables.now }
-    ensures { IfOk result (λ s. FitsSide (IsSampleColumn tables.now) kinds.Integer s) }
+    ensures { IfOk result (λ s. FitsSide (IsSampleColumn tables.now) Numbers s) }
 {
     let terms = terms(alloc, tables, word)?;
     if terms.len() == 0 || terms.len() > 8 {
@@ -85,52 +101,53 @@ fn sum(alloc: Global, tables: &Tables, word: &str) -> Result<Side, Fail>
     Ok(Side::Sum(Items::from_vec(terms)))
 }
 
-/// The side of this type that a word writes.
-pub fn operand(alloc: Global, tables: &Tables, word: &str, kind: ColType) -> Result<Side, Fail>
+/// The side that a word writes, of texts or of numbers.
+pub fn operand(alloc: Global, tables: &Tables, word: &str, texts: bool) -> Result<Side, Fail>
     requires { 0 < length tables.now }
-    ensures { IfOk result (λ s. FitsSide (IsSampleColumn tables.now) kind s) }
+    ensures { IfOk result (λ s. FitsSide (IsSampleColumn tables.now) (class_named texts) s) }
 {
     if word == "null" {
         return Ok(Side::Null);
     }
-    if let Some((column, found)) = column(tables, word) {
-        if found == kind {
+    if let Some((column, kind)) = column(tables, word) {
+        if is_text(kind) == texts {
             return Ok(Side::Column(column));
         }
     }
-    match kind {
-        ColType::Integer => sum(alloc, tables, word),
-        ColType::Text => Ok(Side::Text(SqText::of(alloc, word)?)),
+    if texts {
+        Ok(Side::Text(SqText::of(alloc, word)?))
+    } else {
+        sum(alloc, tables, word)
     }
 }
 
-/// The comparison that a word writes, and the type of its sides.
-fn comparison(word: &str) -> Option<(Cmp, ColType)> {
+/// The comparison that a word writes, and whether its sides are texts.
+fn comparison(word: &str) -> Option<(Cmp, bool)> {
     match word {
-        "eq" => Some((Cmp::Eq, ColType::Integer)),
-        "ne" => Some((Cmp::Ne, ColType::Integer)),
-        "lt" => Some((Cmp::Lt, ColType::Integer)),
-        "le" => Some((Cmp::Le, ColType::Integer)),
-        "gt" => Some((Cmp::Gt, ColType::Integer)),
-        "ge" => Some((Cmp::Ge, ColType::Integer)),
-        "eq'" => Some((Cmp::Eq, ColType::Text)),
-        "lt'" => Some((Cmp::Lt, ColType::Text)),
+        "eq" => Some((Cmp::Eq, false)),
+        "ne" => Some((Cmp::Ne, false)),
+        "lt" => Some((Cmp::Lt, false)),
+        "le" => Some((Cmp::Le, false)),
+        "gt" => Some((Cmp::Gt, false)),
+        "ge" => Some((Cmp::Ge, false)),
+        "eq'" => Some((Cmp::Eq, true)),
+        "lt'" => Some((Cmp::Lt, true)),
         _ => None,
     }
 }
 
-fn compared(
+fn comparing(
     alloc: Global,
     tables: &Tables,
-    how: (Cmp, ColType),
+    how: (Cmp, bool),
     words: &mut Words<'_>,
 ) -> Result<Cond, Fail>
     requires { 0 < length tables.now }
     ensures { IfOk result (IsSample tables.now) }
 {
-    let (cmp, kind) = how;
-    let left = operand(alloc, tables, words.next(), kind)?;
-    let right = operand(alloc, tables, words.next(), kind)?;
+    let (cmp, texts) = how;
+    let left = operand(alloc, tables, words.next(), texts)?;
+    let right = operand(alloc, tables, words.next(), texts)?;
     Ok(Cond::Compare(left, cmp, right))
 }
 
@@ -138,7 +155,7 @@ fn tested(alloc: Global, tables: &Tables, word: &str) -> Result<Cond, Fail>
     requires { 0 < length tables.now }
     ensures { IfOk result (IsSample tables.now) }
 {
-    let side = operand(alloc, tables, word, ColType::Integer)?;
+    let side = operand(alloc, tables, word, false)?;
     Ok(Cond::IsNull(side))
 }
 
@@ -212,7 +229,7 @@ fn simple(alloc: Global, tables: &Tables, word: &str, words: &mut Words<'_>) -> 
     ensures { IfOk result (IsSample tables.now) }
 {
     if let Some(how) = comparison(word) {
-        return compared(alloc, tables, how, words);
+        return comparing(alloc, tables, how, words);
     }
     match word {
         "isnull" => tested(alloc, tables, words.next()),

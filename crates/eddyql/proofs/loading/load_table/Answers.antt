@@ -8,7 +8,7 @@ use Rattle.eddyql.specs.Outcome.{or_refuse, table_read}
 use Rattle.eddyql.specs.declared.status.Status.TheVariants as status
 use Rattle.eddyql.specs.declared.status.TableFault.TheVariants.{NoHeading}
 use Rattle.eddyql.proofs.OutcomeLemmas.{table_read-loaded, early_table-integers}
-use Rattle.eddyql.proofs.StageLemmas.{MayRefuse-same, IsEarly-weaker}
+use Rattle.eddyql.proofs.StageLemmas.{MayRefuse-same, IsEarly-weaker, refused_anyway}
 use Rattle.eddyql.proofs.loading.load_table.Given as given
 use Rattle.eddyql.proofs.loading.load_table.Goals as goal
 
@@ -36,3 +36,6 @@ returns-in-Ok-clause-refused g c =
 pub returns-in-Ok-clause-early : goal.returns-in-Ok-clause-early
 returns-in-Ok-clause-early g c =
     IfErr-weaker c.table_of.result _ _ (λ s h. IsEarly-weaker ⊥ (IsSome (g.F.Folder.holds c.args.folder.now)) s (λ (x : ⊥). absurd x) h) c.table_of.ensures.early
+
+pub returns-in-Ok-clause-refused_kept : goal.returns-in-Ok-clause-refused_kept
+returns-in-Ok-clause-refused_kept g c = refused_anyway c.table_of.result _ c.in-Ok.ensures.kept

@@ -11,7 +11,7 @@ use Rattle.eddyql.specs.Loaded.{IsIntegerTable}
 use Rattle.eddyql.specs.declared.status.FileOf.{FileOf}
 use Rattle.eddyql.specs.declared.status.FileOf.TheVariants as file
 use Rattle.eddyql.proofs.OutcomeLemmas.{tables_read-more, MayRefuse-next, reads_weaker, next_reached, word_told, length-table_words}
-use Rattle.eddyql.proofs.StageLemmas.{MayRefuse-same}
+use Rattle.eddyql.proofs.StageLemmas.{MayRefuse-same, holds_same}
 use Rattle.eddyql.proofs.loading.load_tables.Goals as goal
 
 pub loop-index-init : goal.loop-index-init
@@ -21,6 +21,7 @@ loop-index-init g c =
     record {
       keeps = refl;
       counts = omega arith;
+      kept = refl;
       count = rw none refl;
       integers = rw none (All-nil IsIntegerTable);
       told = λ files told. rw none refl;
@@ -50,6 +51,7 @@ loop-index-preserved g c =
     record {
       keeps = c.in_ok-push_table.ensures.keeps ∙ c.loop-index.invariant.keeps;
       counts = omega (arith, c.loop-index.invariant.counts, c.in_ok-push_table.ensures.counts);
+      kept = c.in_ok-push_table.ensures.kept ∙ c.loop-index.invariant.kept;
       count = omega (arith, ap (length {A = Relation}) a.added, length-append c.loop-index.tables (a.table ∷ []), c.loop-index.invariant.count);
       integers = All-same IsIntegerTable _ _ a.added (All-push IsIntegerTable c.loop-index.tables a.table c.loop-index.invariant.integers a.integers);
       told = λ files told.
@@ -57,3 +59,8 @@ loop-index-preserved g c =
           (ap (table_read c.loop-index.index files) word ∙ a.told files (c.loop-index.invariant.keeps ∙ told))
           ∙ ap (λ (ts : List Relation). Ok ts) (sym a.added);
     }
+
+pub returns-in_err-push_table-clause-refused_kept : goal.returns-in_err-push_table-clause-refused_kept
+returns-in_err-push_table-clause-refused_kept g c =
+    let p = err_from_is_err_and c.from_residual.result c.from_residual.ensures.1 in
+    rw (p.1, p.2) (holds_same c.in_err-push_table.field-0.0 _ _ (λ e. e ∙ c.loop-index.invariant.kept) c.in_err-push_table.ensures.refused_kept)

@@ -12,6 +12,7 @@ abbrev pub invariant-loop-index : goal.invariant-loop-index
 invariant-loop-index g l = record {
   keeps : g.F.Folder.holds l.folder ≡ g.F.Folder.holds l.initial.folder;
   counts : NeverFalls (g.F.Folder.faults l.initial.folder) (g.F.Folder.faults l.folder);
+  kept : g.F.Folder.faults l.folder ≡ g.F.Folder.faults l.initial.folder;
   count : length l.tables ≡ l.index;
   integers : All IsIntegerTable l.tables;
   told : (files : List File) → g.F.Folder.holds l.initial.folder ≡ Some files

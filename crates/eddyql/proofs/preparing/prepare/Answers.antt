@@ -6,7 +6,7 @@ use Rattle.outside.proofs.Laws.{Rose-earlier}
 use Rattle.eddyql.specs.Words.{Command, command_of, table_of_word}
 use Rattle.eddyql.specs.Seen.{join_seen}
 use Rattle.eddyql.specs.Outcome.{Reached, ReachedTable}
-use Rattle.eddyql.proofs.StageLemmas.{MayRefuse-same, unread_only}
+use Rattle.eddyql.proofs.StageLemmas.{MayRefuse-same, unread_only, holds_anyway, holds_same}
 use Rattle.eddyql.proofs.OutcomeLemmas.{reads_weaker}
 use Rattle.eddyql.proofs.PlanLemmas.{query_read-refused, query_found, query_refused, plan_found, plan_refused-query, plan_refused-tables, plan_refused-block, IsRunnable-bound, Reached-table}
 use Rattle.eddyql.proofs.preparing.prepare.Goals as goal
@@ -71,3 +71,18 @@ returns-clause-runnable g c =
     let count = c.in_ok-relations.ensures.count in
     IsRunnable-bound (join_seen c.in_ok-query.query) c.in_ok-relations.relations c.in_ok-block.block c.in_ok-block.ensures.ok c.in_ok-relations.ensures.integers
     (omega (arith, left, count)) (omega (arith, right, count))
+
+pub returns-in_err-query-clause-refused_kept : goal.returns-in_err-query-clause-refused_kept
+returns-in_err-query-clause-refused_kept g c =
+    let p = err_from_is_err_and c.from_residual-in_err-query.result c.from_residual-in_err-query.ensures.1 in
+    rw (p.1, p.2) (holds_anyway c.in_err-query.field-0.0 _ c.in_ok-text.ensures.kept)
+
+pub returns-in_err-relations-clause-refused_kept : goal.returns-in_err-relations-clause-refused_kept
+returns-in_err-relations-clause-refused_kept g c =
+    let p = err_from_is_err_and c.from_residual-in_err-relations.result c.from_residual-in_err-relations.ensures.1 in
+    rw (p.1, p.2) (holds_same c.in_err-relations.field-0.0 _ _ (λ e. e ∙ c.in_ok-text.ensures.kept) c.in_err-relations.ensures.refused_kept)
+
+pub returns-in_err-block-clause-refused_kept : goal.returns-in_err-block-clause-refused_kept
+returns-in_err-block-clause-refused_kept g c =
+    let p = err_from_is_err_and c.from_residual-in_err-block.result c.from_residual-in_err-block.ensures.1 in
+    rw (p.1, p.2) (holds_anyway c.in_err-block.field-0.0 _ (c.in_ok-relations.ensures.kept ∙ c.in_ok-text.ensures.kept))

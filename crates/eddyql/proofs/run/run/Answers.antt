@@ -10,7 +10,7 @@ use Rattle.eddyql.specs.Outcome.{text_of, ReachedBy, IsOutcome}
 use Rattle.eddyql.specs.Run.{status_of, text_due}
 use Rattle.eddyql.specs.declared.status.Status.{Status}
 use Rattle.eddyql.specs.declared.status.Status.TheVariants as status
-use Rattle.eddyql.proofs.StageLemmas.{MayEnd-late, ends_by_outcome, ends_by_refusal}
+use Rattle.eddyql.proofs.StageLemmas.{MayEnd-late, ends_by_outcome, ends_by_refusal, holds_anyway}
 use Rattle.eddyql.proofs.RunLemmas.{run_of, no_command-false, no_command-none, due-usage, due_of_run, due-script_fault, end_of_refused, not_read, no_script}
 use Rattle.sq_parse.specs.declared.parser.ParseFault.TheVariants as parser
 use Rattle.eddyql.proofs.ScriptFaults.{script_fault_only, early_other, late_other}
@@ -115,3 +115,6 @@ returns-in-Ok-clause-no_memory g c = λ is. late_other c.run_plan.result parser.
 
 pub returns-in-Err-clause-no_memory : goal.returns-in-Err-clause-no_memory
 returns-in-Err-clause-no_memory g c = λ is. early_other _ c.in-Err.refusal c.in-Err.ensures.early is
+
+pub returns-in-Ok-clause-kept : goal.returns-in-Ok-clause-kept
+returns-in-Ok-clause-kept g c = holds_anyway c.run_plan.result _ c.in-Ok.ensures.kept

@@ -1,0 +1,11 @@
+mod BestLaws
+mod PotLaws
+mod TextLaws
+mod ReadingLaws
+mod WordLaws
+mod PieceLaws
+mod FollowLaws
+mod ChoiceLaws
+mod TicketLaws
+mod DrawLaws
+mod PressureLaws

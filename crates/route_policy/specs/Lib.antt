@@ -1,0 +1,10 @@
+pub mod Routes
+pub mod Counts
+pub mod Calls
+pub mod Lottery
+pub mod Pressure
+pub mod Script
+pub mod ScriptReading
+pub mod ScriptLaw
+pub mod AnyPolicy
+pub mod Recorder

@@ -1,0 +1,51 @@
+//! What every policy promises.
+
+ghost use Rattle.std.specs.Prelude.{◌≡◌, ◌<◌, ℕ, List, Option, length};
+ghost use Rattle.tuple_span.specs.Parts.{Parts};
+ghost use Rattle.tuple_span.specs.declared.route.Route.{Route as TheRoute};
+ghost use Rattle.route_policy.specs.declared.call.PolicyCall.{PolicyCall};
+ghost use Rattle.route_policy.specs.Routes.{AreChoices, IsRoute};
+ghost use Rattle.route_policy.specs.Counts.{raised};
+ghost use Rattle.route_policy.specs.Calls.{Tells, chose, returned};
+
+use tuple_span::{Route, Tuple};
+
+/// What chooses the next route of each tuple.
+///
+/// It counts its choices in a number that stays at 18,446,744,073,709,551,615, and tells the calls
+/// that were made of it, where it keeps them. What it tells after a call it told before it.
+pub trait Policy: Drop {
+    // How many choices it has made.
+    ghost asked: { Self → ℕ };
+
+    // The calls that were made of it, in order, where it tells them.
+    ghost calls: { Self → Option (List PolicyCall) };
+
+    // Which place it may choose for a tuple among routes, and what it is then.
+    ghost may_choose: { Self → Parts → List TheRoute → ℕ → Self → Type 0 };
+
+    // What it may be once it is told how many tuples came of a route.
+    ghost may_become: { Self → TheRoute → ℕ → Self → Type 0 };
+
+    /// Chooses one of the legal routes of a tuple, and answers its place.
+    ///
+    /// There are 1 to 128, with conjuncts below 48 and aliases below 12.
+    fn choose(&mut self, tuple: &Tuple, legal: &[Route]) -> usize
+        requires choices { AreChoices legal.now }
+        ensures within { result < length legal.now }
+        ensures asked { asked self.new ≡ raised (asked self.old) }
+        ensures told { Tells (calls self.old) (calls self.new) (chose tuple.now legal.now result) }
+        ensures chosen { may_choose self.old tuple.now legal.now result self.new };
+
+    /// Is told how many tuples came of a route that it chose. Its conjunct is below 48, and its
+    /// alias below 12.
+    fn returned(&mut self, route: Route, count: u64)
+        requires known { IsRoute route }
+        ensures asked { asked self.new ≡ asked self.old }
+        ensures told { Tells (calls self.old) (calls self.new) (returned route count) }
+        ensures learnt { may_become self.old route count self.new };
+
+    /// How many choices it has made.
+    fn asked(&self) -> u64
+        ensures { result ≡ asked self.now };
+}

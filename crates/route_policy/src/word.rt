@@ -1,0 +1,84 @@
+//! The words of a route script.
+
+ghost use Rattle.std.specs.Prelude.{◌≡◌, ◌+◌, ◌*◌, ◌<◌, ◌≤◌, length, IfSome};
+ghost use Rattle.route_policy.specs.Script.{is_match, goes_by};
+ghost use Rattle.route_policy.specs.ScriptReading.{number_of, lettered, word_of};
+
+use tuple_span::{Route, Via};
+
+/// A word of a route script: which routes it matches.
+#[derive(Clone, Copy, Debug, PartialEq, Eq)]
+pub enum RouteWord {
+    /// The building of a tuple.
+    Build,
+    /// The selection by a conjunct.
+    Select(u8),
+    /// The probe of all entries of an alias.
+    All(u8),
+    /// A probe by a conjunct.
+    By(u8),
+}
+
+impl Default for RouteWord {
+    fn default() -> RouteWord {
+        RouteWord::Build
+    }
+}
+
+impl RouteWord {
+    /// Whether it matches a route.
+    pub(crate) fn is_match(&self, route: &Route) -> bool
+        ensures { result ≡ is_match self.now route.now }
+    {
+        match (self, route) {
+            (RouteWord::Build, Route::Build { .. }) => true,
+            (RouteWord::Select(conjunct), Route::Select(other)) => conjunct == other,
+            (
+                RouteWord::All(alias),
+                Route::Probe {
+                    alias: other,
+                    via: Via::All,
+                },
+            ) => alias == other,
+            (RouteWord::By(conjunct), Route::Probe { via, .. }) => goes_by(*conjunct, via),
+            _ => false,
+        }
+    }
+}
+
+/// Whether a probe goes by this conjunct.
+fn goes_by(conjunct: u8, via: &Via) -> bool
+    ensures { result ≡ goes_by conjunct via.now }
+{
+    match via {
+        Via::Equal(other) | Via::Literal(other) | Via::Range(other) => conjunct == *other,
+        Via::All => false,
+    }
+}
+
+/// The number below a limit that these bytes are in decimal digits, without a leading zero.
+fn number_of(limit: u8, digits: &[u8]) -> Option<u8>
+    ensures value { result ≡ number_of limit digits.now }
+    ensures short { IfSome result (λ _. length digits.now ≤ 2) }
+{
+    let number = match digits {
+        [last @ b'0'..=b'9'] => last - b'0',
+        [first @ b'1'..=b'9', last @ b'0'..=b'9'] => 10 * (first - b'0') + (last - b'0'),
+        _ => return None,
+    };
+    if number < limit { Some(number) } else { None }
+}
+
+/// The word that these bytes are.
+pub(crate) fn word_of(bytes: &[u8]) -> Option<RouteWord>
+    ensures value { result ≡ word_of bytes.now }
+    ensures short { IfSome result (λ _. length bytes.now ≤ 3) }
+{
+    match bytes {
+        [b'b'] => Some(RouteWord::Build),
+        [b's', digits @ ..] => Some(RouteWord::Select(number_of(48, digits)?)),
+        [b'a', digits @ ..] => Some(RouteWord::All(number_of(12, digits)?)),
+        [b'v', digits @ ..] => Some(RouteWord::By(number_of(48, digits)?)),
+        _ => None,
+    }
+}

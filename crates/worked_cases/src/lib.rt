@@ -1,0 +1,7 @@
+//! Cases worked out by hand, for the public calls of the crates below: this crate holds tests alone.
+//!
+//! Cases are lines of text. Each is what is wanted, a bar, and what is asked.
+#![tactic(auto)]
+
+#[cfg(test)]
+mod scripts;
