@@ -5,6 +5,7 @@ pub mod Owed
 pub mod Faithful
 pub mod Keys
 pub mod Route
+pub mod Routes
 pub mod Kept
 pub mod Chased
 pub mod Act

@@ -10,3 +10,4 @@ pub mod CloseLemmas
 pub mod SharedLemmas
 mod WorkedScans
 mod WorkedLookUps
+pub mod ToldLemmas

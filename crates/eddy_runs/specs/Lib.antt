@@ -2,6 +2,8 @@ pub mod State
 pub mod Justified
 pub mod Reached
 pub mod Complete
+pub mod Told
+pub mod Recorded
 pub mod View
 pub mod Close
 pub mod Shared

@@ -16,6 +16,8 @@ ghost use Rattle.eddy_runs.specs.State.{State, IsStep, IsRun, IsKeeping, HasEnde
 ghost use Rattle.eddy_runs.specs.Justified.{IsAnswering};
 ghost use Rattle.eddy_runs.specs.Reached.{IsReached};
 ghost use Rattle.eddy_runs.specs.Complete.{IsBagOf};
+ghost use Rattle.eddy_runs.specs.Told.{Told, IsToldRun, most_hops};
+ghost use Rattle.eddy_runs.specs.Recorded.{IsRecorded, marks_of};
 ghost use Rattle.eddy_meaning.specs.Keys.{Mark};
 ghost use Rattle.eddy_runs.specs.Close.{Seat, PoolMove, HaveClosed, HaveEnded, results_of};
 ghost use Rattle.eddy_runs.specs.Shared.{block_log, place_in};
@@ -26,7 +28,9 @@ ghost use Rattle.eddy_runs.specs.Shared.{block_log, place_in};
 /// stands in each state of each run (`run`): in all of them what was found and what the pending
 /// tuples owe is what the log is credited with, each pending tuple is faithful and within its
 /// hops, each row that came is kept, and each entry is chased. Where a run has ended its results
-/// are the bag in another order, look-ups included (`end`).
+/// are the bag in another order, look-ups included (`end`). Where its routings were told to a
+/// policy, the results, the log, the asked keys and the most hops are an answer as it must be
+/// (`recorded`).
 pub fn run_laws()
     ensures start { (gives : ℕ → Value → Value → Truth) (block : Block) (tables : List Relation)
         → IsReached gives block tables (empty_state block) }
@@ -42,6 +46,11 @@ pub fn run_laws()
         → (alias : ℕ) (u : AliasUse) → slice_get block.aliases alias ≡ Some u → u.access.scan ≡ true
         → (s : State) → IsReached gives block tables s → HasEnded block tables s
         → IsBagOf gives block tables s.results }
+    ensures recorded { (gives : ℕ → Value → Value → Truth) (kinds : ℕ → Option Kinds) (block : Block)
+        → (tables : List Relation) → IsFit kinds tables block
+        → (alias : ℕ) (u : AliasUse) → slice_get block.aliases alias ≡ Some u → u.access.scan ≡ true
+        → (tolds : List Told) (s : State) → IsToldRun gives block tables tolds s → HasEnded block tables s
+        → IsRecorded gives block tables s.results s.log (marks_of s.asked) (most_hops tolds) }
 {}
 
 /// The laws of the workers' close. It does nothing.
