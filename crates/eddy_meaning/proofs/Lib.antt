@@ -14,5 +14,6 @@ pub mod TraceLemmas
 pub mod StepLemmas
 pub mod ReachLemmas
 pub mod HopLemmas
+pub mod CountLemmas
 pub mod ModuleLemmas
 mod WorkedKeys

@@ -1,12 +1,9 @@
 -- Each step keeps that the pending tuples are unfinished and have made hops within the bounds, and that no key is asked for twice.
-use Rattle.std.proofs.Common.{◌≡◌, ◌⊎◌, inl, inr, ⊎_elim, ℕ, zero, suc, ◌+◌, ◌<◌, true, false, List, [], ◌∷◌, ◌++◌, length, get_or, Option, Some, refl, ap, sym, ◌∙◌, arith, subst}
-use Rattle.std.specs.Prelude.{not, All, slice_get, slice_set, slice_index}
-use Rattle.std.specs.List.{remove}
-use Rattle.std.proofs.lemmas.Bool.{not-true}
+use Rattle.std.proofs.Common.{◌≡◌, ◌⊎◌, inl, inr, ⊎_elim, ℕ, zero, suc, ◌+◌, ◌<◌, true, false, List, [], ◌∷◌, ◌++◌, length, Option, Some, refl, ap, sym, ◌∙◌, arith, subst}
+use Rattle.std.specs.Prelude.{All, slice_get, slice_set, slice_index}
 use Rattle.std.proofs.lemmas.Option.{slice_get_within}
 use Rattle.std.proofs.lemmas.List.{append-nil}
-use Rattle.std.proofs.lemmas.List.Elements.{All-push, All-append, All-head, All-tail, All-filter, filter_passes}
-use Rattle.std.proofs.lemmas.List.Sorted.{All-permutation}
+use Rattle.std.proofs.lemmas.List.Elements.{All-push, All-head}
 use Rattle.sq_value.specs.Relation.{Relation}
 use Rattle.sq_value.specs.declared.value.Value.{Value}
 use Rattle.sq_value.specs.declared.value.Truth.{Truth}
@@ -18,14 +15,13 @@ use Rattle.eddy_runs.specs.declared.event.Event.TheVariants as event
 use Rattle.eddy_meaning.specs.Tuple.{Tuple}
 use Rattle.eddy_meaning.specs.Route.{came}
 use Rattle.eddy_meaning.specs.Faithful.{IsFaithful, is_finished}
-use Rattle.eddy_meaning.specs.Act.{unfinished}
 use Rattle.eddy_runs.specs.State.{State, Asked, IsAsked, IsNewKey, IsStep, IsKeeping}
 use Rattle.eddy_meaning.specs.Route.{single}
 use Rattle.eddy_meaning.specs.Hops.{HasHops, AreGoing}
 use Rattle.eddy_meaning.proofs.MatchLemmas.{All-at}
-use Rattle.eddy_meaning.proofs.ActLemmas.{IsPermutation-taken}
 use Rattle.eddy_runs.specs.Reached.{AreApart}
 use Rattle.eddy_runs.proofs.KeepLemmas.{Contains-at, place_cases}
+use Rattle.eddy_meaning.proofs.CountLemmas.{going_act}
 use Rattle.eddy_meaning.proofs.HopLemmas.{hops_came, hops_single}
 
 module _ (gives : ℕ → Value → Value → Truth) (kinds : ℕ → Option Kinds) (block : Block) (tables : List Relation) (fits : IsFit kinds tables block) where
@@ -47,13 +43,7 @@ module _ (gives : ℕ → Value → Value → Truth) (kinds : ℕ → Option Kin
       let own : HasHops step.t = (All-at Goes old.pending place step.t h step.at).1 in
       let wide : length step.t.parts ≡ 12 = (All-at (IsFaithful gives block tables old.log) old.pending place step.t keeps.faithful step.at).sound.wide in
       let hops = hops_came gives kinds block tables fits old.log step.t route wide step.legal own in
-      subst (AreGoing block) (sym step.pending)
-      (All-append Goes (remove old.pending place) (unfinished block cs)
-      (All-tail Goes step.t (remove old.pending place) (All-permutation Goes old.pending (step.t ∷ remove old.pending place) (IsPermutation-taken old.pending place step.t step.at) h))
-      (λ k d low. (
-        not-true (is_finished block (get_or (unfinished block cs) k d)) (filter_passes (λ (u : Tuple). not (is_finished block u)) cs k d low),
-        All-filter (λ (u : Tuple). not (is_finished block u)) HasHops cs hops k d low,
-      )))
+      subst (AreGoing block) (sym step.pending) (going_act block old.pending place step.t cs step.at h hops)
 
 -- an entry written anew with the same alias and key
 apart_set : (asked : List Asked) (place : ℕ) (k l : Asked) → slice_get asked place ≡ Some k → l.alias ≡ k.alias → l.key ≡ k.key → AreApart asked → AreApart (slice_set asked place l)

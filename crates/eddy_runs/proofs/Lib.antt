@@ -6,8 +6,10 @@ pub mod ReachedLemmas
 pub mod WorkerLemmas
 pub mod PoolLemmas
 pub mod PermutationLemmas
+pub mod AnswerLemmas
 pub mod CloseLemmas
 pub mod SharedLemmas
 mod WorkedScans
 mod WorkedLookUps
 pub mod ToldLemmas
+pub mod ClosingLemmas

@@ -5,5 +5,6 @@ pub mod Complete
 pub mod Told
 pub mod Recorded
 pub mod View
+pub mod Answers
 pub mod Close
 pub mod Shared

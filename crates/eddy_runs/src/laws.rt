@@ -19,7 +19,7 @@ ghost use Rattle.eddy_runs.specs.Complete.{IsBagOf};
 ghost use Rattle.eddy_runs.specs.Told.{Told, IsToldRun, most_hops};
 ghost use Rattle.eddy_runs.specs.Recorded.{IsRecorded, marks_of};
 ghost use Rattle.eddy_meaning.specs.Keys.{Mark};
-ghost use Rattle.eddy_runs.specs.Close.{Seat, PoolMove, HaveClosed, HaveEnded, results_of};
+ghost use Rattle.eddy_runs.specs.Close.{Seat, PoolMove, HaveClosed, HaveEnded, HaveAnswered, results_of, most_of};
 ghost use Rattle.eddy_runs.specs.Shared.{block_log, place_in};
 
 /// The laws of the core's runs. It does nothing.
@@ -56,7 +56,9 @@ pub fn run_laws()
 /// The laws of the workers' close. It does nothing.
 ///
 /// The results of all workers together are what the log is credited with (`credits`). Where each
-/// row came to some worker, they are the bag in another order (`bag`).
+/// row came to some worker, they are the bag in another order (`bag`). Where the workers answer for
+/// their keys too and counted their hops, their results, the log, the marked keys and the most hops
+/// are an answer as it must be (`recorded`).
 pub fn close_laws()
     ensures credits { (gives : ℕ → Value → Value → Truth) (block : Block) (tables : List Relation)
         → (seats : List Seat) (log : List Built) (marks : List Mark) (moves : List PoolMove)
@@ -68,6 +70,13 @@ pub fn close_laws()
         → (seats : List Seat) (log : List Built) (marks : List Mark) (moves : List PoolMove)
         → HaveEnded gives block tables seats log marks moves
         → IsBagOf gives block tables (results_of seats) }
+    ensures recorded { (gives : ℕ → Value → Value → Truth) (block : Block) (tables : List Relation)
+        → (seats : List Seat) (log : List Built) (marks : List Mark) (moves : List PoolMove)
+        → (kinds : ℕ → Option Kinds) → IsFit kinds tables block
+        → (alias : ℕ) (u : AliasUse) → slice_get block.aliases alias ≡ Some u → u.access.scan ≡ true
+        → 0 < length seats → HaveEnded gives block tables seats log marks moves
+        → HaveAnswered gives block tables seats marks
+        → IsRecorded gives block tables (results_of seats) log marks (most_of seats) }
 {}
 
 /// The laws of the log that a block gets from a shared one, in which entries are rows of tables. It
