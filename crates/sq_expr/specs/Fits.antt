@@ -1,4 +1,5 @@
--- When a condition or a block fits tables and predicates: a property of types and column numbers, which binding ensures.
+-- When a condition or a block fits tables and predicates: a property of types and column numbers, which binding
+-- ensures.
 -- And when the rows that a condition is evaluated over are there.
 use Rattle.std.specs.Prelude.{◌≡◌, ℕ, ◌<◌, ◌≤◌, ◌⊎◌, ◌↔◌, List, [], ◌∷◌, ◌++◌, length, map, Option, Some, None, IsSome, IfSome, IsSomeAnd, All, Contains, IsBitSet, ℤ, true, ⊤, slice_get, slice_index, option_and_then, unsigned_abs}
 use Rattle.std.specs.List.{flat_map, concat}
