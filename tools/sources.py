@@ -6,7 +6,7 @@ from collections import namedtuple
 Definition = namedtuple("Definition", "crate module name kind file line comment")
 Clause = namedtuple("Clause", "kind name text")
 Model = namedtuple("Model", "crate type file line is_public parts words aliases")
-Function = namedtuple("Function", "crate module owner name file line is_public has_body clauses words aliases attributes")
+Function = namedtuple("Function", "crate module owner name file line is_public has_body is_law clauses words aliases attributes")
 
 NAME = r"[^\W\d][\w'₀-₉]*"
 
@@ -198,7 +198,7 @@ def functions_of(repository, crate, file, module, passed):
             is_public = visible(said[2], of, trait, owner[2], name, module, passed)
             what = f"{of}::{name}" if of and not trait else f"{trait} for {of}::{name}" if of else name
             has_body = not head.rstrip().endswith(";")
-            found.append(Function(crate, module, (of, trait), what, file, number, is_public, has_body, clauses_of(head), words, aliases, attributes))
+            found.append(Function(crate, module, (of, trait), what, file, number, is_public, has_body, head.rstrip().endswith("{}"), clauses_of(head), words, aliases, attributes))
         attributes = [*attributes, line.strip()] if line.strip().startswith("#[") else attributes if line.strip().startswith("//") else []
     return found
 

@@ -39,7 +39,10 @@ sample_block uses conjuncts = record {
 
 -- a.x < b.x
 abbrev pub below : Conjunct
-below = record { cond = Compare (Column record { alias = 0; column = 0 }) Lt (Column record { alias = 1; column = 0 }); span = 3 }
+below = record {
+  cond = Compare (Column record { alias = 0; column = 0 }) Lt (Column record { alias = 1; column = 0 });
+  span = 3;
+}
 
 -- 'a' IS NULL, which is False and has no column
 abbrev pub never : Conjunct

@@ -35,5 +35,6 @@ pub fn answer_laws()
 /// order, so each match is credited just once. The block has an alias. It does nothing.
 pub fn credit_law()
     ensures { (gives : ℕ → Value → Value → Truth) (block : Block) (tables : List Relation) (log : List Built)
-        → 0 < length block.aliases → IsWhole gives block tables log → IsPermutation (bag gives block tables) (credits gives block tables log) }
+        → 0 < length block.aliases → IsWhole gives block tables log
+        → IsPermutation (bag gives block tables) (credits gives block tables log) }
 {}

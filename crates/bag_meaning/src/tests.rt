@@ -13,7 +13,10 @@ use std::test::Fail;
 
 /// A table of one column, x INTEGER, without rows.
 fn without_rows(alloc: Global) -> Result<Table, Memory>
-    ensures { IfOk result (λ t. t ≡ record { columns = record { name = codes "x"; kind = kind.Integer } ∷ []; rows = [] }) }
+    ensures { IfOk result (λ t. t ≡ record {
+      columns = record { name = codes "x"; kind = kind.Integer } ∷ [];
+      rows = [];
+    }) }
 {
     let name = SqText::of(alloc, "x")?;
     let kind = ColType::Integer;

@@ -1,6 +1,6 @@
 -- Places in a list of texts and in the list of their bytes.
-use Rattle.std.proofs.Common.{◌≡◌, ℕ, ◌+◌, Bool, not, List, [], ◌∷◌, ◌++◌, Option, length, map, cond, refl, sym, ap, ◌∙◌}
-use Rattle.std.specs.Prelude.{String, nat_lt, Some, None, position, string_bytes, if◌then◌else◌}
+use Rattle.std.proofs.Common.{◌≡◌, ℕ, ◌+◌, Bool, not, List, [], ◌∷◌, Option, length, map, cond, refl, sym, ap, ◌∙◌}
+use Rattle.std.specs.Prelude.{String, nat_lt, Some, None, position, string_bytes}
 use Rattle.std.specs.List.{prefix_len}
 use Rattle.std.proofs.lemmas.List.{length-map}
 use Rattle.catalogue.specs.Names.{bytes_of}

@@ -12,4 +12,5 @@ LosesAtMost limit before now = (prefix : List ℕ) × Consumes before now prefix
 
 -- the stream took a prefix of a piece behind what it held
 abbrev pub TakesPrefix : List ℕ → Option (List ℕ) → Option (List ℕ) → Type 0
-TakesPrefix piece before now = (prefix : List ℕ) × (rest : List ℕ) × (piece ≡ prefix ++ rest) × Appends before now prefix
+TakesPrefix piece before now =
+    (prefix : List ℕ) × (rest : List ℕ) × (piece ≡ prefix ++ rest) × Appends before now prefix

@@ -14,7 +14,11 @@ empty_sink room = record { kept = []; room = room; fitted = true }
 -- the sink after a piece: it keeps the first bytes that fit
 abbrev pub after_piece : SureState → List ℕ → SureState
 after_piece s piece =
-    record { kept = s.kept ++ take s.room piece; room = s.room - length piece; fitted = s.fitted && nat_le (length piece) s.room }
+    record {
+      kept = s.kept ++ take s.room piece;
+      room = s.room - length piece;
+      fitted = s.fitted && nat_le (length piece) s.room;
+    }
 
 -- what is kept is what was written, while all has fitted
 abbrev pub told : SureState → Option (List ℕ)

@@ -1,3 +1,4 @@
+//! Why a load gave no bytes, and why a put took less than its piece.
 ghost use Rattle.std.specs.Prelude.{◌≡◌};
 ghost use Rattle.outside.specs.declared.fault.LoadFault.TheVariants as variants;
 

@@ -1,3 +1,4 @@
+//! Where files are loaded from: the trait of folders.
 ghost use Rattle.std.specs.Prelude.{◌≡◌, ℕ, List, Option, ◌<◌, ◌≤◌, ◌^◌, vec_len, IfOk, OnOk};
 ghost use Rattle.outside.specs.Files.{File, Gives, Lacks};
 ghost use Rattle.outside.specs.Faults.{NeverFalls, Rose};

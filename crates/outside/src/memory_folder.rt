@@ -1,3 +1,4 @@
+//! A folder in memory, with faults where they are chosen.
 ghost use Rattle.std.specs.Prelude.{◌≡◌, ◌∷◌, ◌≢◌, ◌≤◌, ◌+◌, ◌==◌, ◌↔◌, Some, true, vec_len, IfOk, OnOk, OnErr};
 ghost use Rattle.std.specs.List.{list_any};
 ghost use Rattle.outside.specs.Chosen.{no_files, load_fails, after_load};
@@ -116,7 +117,8 @@ impl Folder for MemoryFolder {
         ensures absent_kept { result ≡ Err LoadFault.Absent → self.new.faults ≡ self.old.faults }
         ensures after { self.new ≡ after_load self.old }
         ensures chosen { result ≡ Err LoadFault.Failed ↔ load_fails self.old ≡ true }
-        ensures lacking { load_fails self.old ≢ true → Lacks (Some self.old.files) name.now → result ≡ Err LoadFault.Absent }
+        ensures lacking { load_fails self.old ≢ true → Lacks (Some self.old.files) name.now
+            → result ≡ Err LoadFault.Absent }
     {
         if self.count_load() {
             return Err(LoadFault::Failed);

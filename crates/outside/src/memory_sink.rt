@@ -1,3 +1,4 @@
+//! A sink in memory of a fixed room, with faults where they are chosen.
 ghost use Rattle.std.specs.Prelude.{◌≡◌, ◌∷◌, ◌+◌, ◌==◌, Some, not, is_ok, find, option_map, IfOk, OnOk, OnErr};
 ghost use Rattle.outside.specs.Chosen.{failing_put, empty_sink, put_fails, after_put};
 ghost use Rattle.outside.specs.Faults.{NeverFalls, Rose, shown, shown-bounded};
@@ -45,7 +46,13 @@ impl Model for MemorySink {
 
     ghost Value = { SinkState };
 
-    ghost view = { λ s. record { written = s.written.items; room = s.room; chosen = s.chosen.items; puts = s.puts; faults = s.faults } };
+    ghost view = { λ s. record {
+      written = s.written.items;
+      room = s.room;
+      chosen = s.chosen.items;
+      puts = s.puts;
+      faults = s.faults;
+    } };
 
     ghost invariant = { λ s. vec_len s.written + s.room ≤ vec_capacity s.written };
 }

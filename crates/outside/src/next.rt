@@ -1,3 +1,4 @@
+//! Which call comes next, where calls count from 1.
 ghost use Rattle.std.specs.Prelude.{◌≡◌, ◌+◌, ◌==◌};
 
 /// Whether this is the number of the next call, behind so many calls: calls count from 1.

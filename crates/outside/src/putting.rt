@@ -16,7 +16,8 @@ use std::io::Write;
 fn write_some<W: Write>(stream: &mut W, piece: &[u8], faults: &mut u64) -> Result<usize, PutFault>
     ensures some { IfOk result (λ taken. 0 < taken) }
     ensures within { IfOk result (λ taken. taken ≤ length piece.now) }
-    ensures taken { IfOk result (λ taken. Appends (W.contents stream.old) (W.contents stream.new) (take taken piece.now)) }
+    ensures taken { IfOk result (λ taken. Appends (W.contents stream.old) (W.contents stream.new)
+        (take taken piece.now)) }
     ensures untaken { OnErr result (Keeps (W.contents stream.old) (W.contents stream.new)) }
     ensures failed { OnErr result (faults.new ≡ raised faults.old) }
     ensures kept { OnOk result (faults.new ≡ faults.old) }

@@ -28,7 +28,8 @@ fn read_once<R: Read>(
     requires { start < length all.old }
     ensures before { take start all.new ≡ take start all.old }
     ensures within { IfSome result (λ count. start + count ≤ length all.old) }
-    ensures taken { IfSome result (λ count. Consumes (R.remaining reader.old) (R.remaining reader.new) (take count (drop start all.new))) }
+    ensures taken { IfSome result (λ count. Consumes (R.remaining reader.old) (R.remaining reader.new)
+        (take count (drop start all.new))) }
     ensures at_end { IfSome result (λ count. count ≡ 0 → IsAtEnd (R.remaining reader.new)) }
     ensures untaken { IfNone result (Keeps (R.remaining reader.old) (R.remaining reader.new)) }
     ensures counts { faults.new ≡ (if is_none result then raised faults.old else faults.old) }
@@ -53,7 +54,8 @@ fn read_more<R: Read>(
     ensures within { IfOk result (λ count. count ≤ most) }
     ensures longer { IfOk result (λ count. vec_len bytes.new ≡ vec_len bytes.old + count) }
     ensures behind { OnOk result (StartsWith bytes.new.items bytes.old.items) }
-    ensures taken { OnOk result (Consumes (R.remaining reader.old) (R.remaining reader.new) (appended_bytes bytes.old.items bytes.new.items)) }
+    ensures taken { OnOk result (Consumes (R.remaining reader.old) (R.remaining reader.new)
+        (appended_bytes bytes.old.items bytes.new.items)) }
     ensures at_end { IfOk result (λ count. count ≡ 0 → IsAtEnd (R.remaining reader.new)) }
     ensures untaken { OnErr result (Keeps (R.remaining reader.old) (R.remaining reader.new)) }
     ensures failed { result ≡ Err LoadFault.Failed → faults.new ≡ raised faults.old }
@@ -112,7 +114,8 @@ pub(crate) fn load_prefix<R: Read + Drop>(
     faults: &mut u64,
 ) -> Result<Vec<u8>, LoadFault>
     ensures within { IfOk result (λ bytes. vec_len bytes ≤ limit) }
-    ensures prefix { IfOk opened (λ reader. IfOk result (λ bytes. IsPrefixWithin (R.remaining reader) limit bytes.items)) }
+    ensures prefix { IfOk opened (λ reader. IfOk result
+        (λ bytes. IsPrefixWithin (R.remaining reader) limit bytes.items)) }
     ensures unopened { OnErr opened (result ≡ Err LoadFault.Failed) }
     ensures failed { result ≡ Err LoadFault.Failed → faults.new ≡ raised faults.old }
     ensures kept { result ≢ Err LoadFault.Failed → faults.new ≡ faults.old }

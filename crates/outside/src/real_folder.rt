@@ -1,3 +1,4 @@
+//! The file system as a folder.
 ghost use Rattle.std.specs.Prelude.{◌≡◌, ◌≢◌, ◌≤◌, vec_len, IfOk, OnOk, is_err, None, if◌then◌else◌};
 ghost use Rattle.outside.specs.Faults.{NeverFalls, Rose, raised, shown, shown-bounded};
 ghost use Rattle.outside.specs.Files.{Gives};

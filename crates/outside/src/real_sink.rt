@@ -1,3 +1,4 @@
+//! A stream of the system as a sink.
 ghost use Rattle.std.specs.Prelude.{◌≡◌, None, OnOk, OnErr};
 ghost use Rattle.std.specs.Io.KnownBytes.{Appends};
 ghost use Rattle.outside.specs.Faults.{NeverFalls, Rose, shown, shown-bounded};

@@ -1,3 +1,4 @@
+//! What text is put into: the trait of sinks.
 ghost use Rattle.std.specs.Prelude.{◌≡◌, ℕ, ◌<◌, ◌^◌, List, Option, OnOk, OnErr};
 ghost use Rattle.outside.specs.Faults.{NeverFalls, Rose};
 ghost use Rattle.outside.specs.Told.{Adds, AddsFront};

@@ -1,3 +1,4 @@
+//! A folder in memory no load of which fails.
 ghost use Rattle.std.specs.Prelude.{◌≡◌, [], ◌∷◌, ◌≢◌, ◌≤◌, ◌↔◌, None, Some, vec_len, IfOk, OnOk, OnErr};
 ghost use Rattle.outside.specs.Files.{Gives, file_of, lookup};
 ghost use Rattle.outside.specs.Faults.{shown-bounded};

@@ -1,3 +1,4 @@
+//! A sink in memory that takes every piece whole.
 ghost use Rattle.std.specs.Prelude.{◌≡◌, OnOk, IfOk, IsOk};
 ghost use Rattle.outside.specs.Told.{Adds};
 ghost use Rattle.outside.specs.Sure.{empty_sink, after_piece, told};

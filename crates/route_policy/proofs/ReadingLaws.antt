@@ -9,18 +9,18 @@ use Rattle.std.specs.List.{position_or_len, cons_option}
 use Rattle.route_policy.specs.declared.fault.ScriptFault.TheVariants.{BadWord, TooLong}
 use Rattle.route_policy.specs.declared.word.RouteWord.{RouteWord}
 use Rattle.route_policy.specs.Script.{fresh_script, IsWord, word_text}
-use Rattle.route_policy.specs.ScriptReading.{word_of, first_bad, start_of, script_of_pieces}
-use Rattle.route_policy.proofs.WordLaws.{word_of-text}
+use Rattle.route_policy.specs.ScriptReading.{read_word, first_bad, start_of, script_of_pieces}
+use Rattle.route_policy.proofs.WordLaws.{read_word-text}
 
 -- whether a piece is no word
 abbrev pub is_bad : List ℕ → Bool
-is_bad piece = is_none (word_of piece)
+is_bad piece = is_none (read_word piece)
 
 -- the texts of words are read as these words
-pub filter_map-texts : (words : List RouteWord) → All IsWord words → filter_map word_of (map word_text words) ≡ words
+pub filter_map-texts : (words : List RouteWord) → All IsWord words → filter_map read_word (map word_text words) ≡ words
 filter_map-texts [] known = refl
 filter_map-texts (w ∷ words) known =
-    ap (λ found. cons_option found (filter_map word_of (map word_text words))) (word_of-text w (All-head IsWord w words known))
+    ap (λ found. cons_option found (filter_map read_word (map word_text words))) (read_word-text w (All-head IsWord w words known))
     ∙ ap (λ rest. w ∷ rest) (filter_map-texts words (All-tail IsWord w words known))
 
 -- the first bad piece stands behind the words
@@ -28,7 +28,7 @@ pub first_bad-texts : (words : List RouteWord) (rest : List (List ℕ)) → All 
     → position_or_len is_bad (map word_text words ++ rest) ≡ length words + position_or_len is_bad rest
 first_bad-texts [] rest known = omega arith
 first_bad-texts (w ∷ words) rest known =
-    let here : is_bad (word_text w) ≡ false = ap is_none (word_of-text w (All-head IsWord w words known)) in
+    let here : is_bad (word_text w) ≡ false = ap is_none (read_word-text w (All-head IsWord w words known)) in
     let step : position_or_len is_bad (word_text w ∷ (map word_text words ++ rest)) ≡ 1 + position_or_len is_bad (map word_text words ++ rest) =
     ap (λ b. cond (not b) (1 + position_or_len is_bad (map word_text words ++ rest)) 0) here in
     omega (arith, step, first_bad-texts words rest (All-tail IsWord w words known))
@@ -84,7 +84,7 @@ script_of-words words known few =
     (le-ltb (first_bad (map word_text words ++ [])) (length (take 64 (map word_text words ++ [])))
     (omega (arith, first_bad-leading words [] known few, length-leading words [] few)))
     ∙ cond-false _ _ _ (le-ltb 64 (length (map word_text words ++ [])) (omega (arith, length-pieces words [], few)))
-    ∙ ap (λ pieces. Ok (fresh_script (filter_map word_of pieces))) (append-nil (map word_text words))
+    ∙ ap (λ pieces. Ok (fresh_script (filter_map read_word pieces))) (append-nil (map word_text words))
     ∙ ap (λ found. Ok (fresh_script found)) (filter_map-texts words known)
 
 -- 64 words and more pieces
@@ -99,7 +99,7 @@ script_of-long words piece more known full =
 
 -- fewer words and then a piece that is none
 pub script_of-bad : (words : List RouteWord) (piece : List ℕ) (more : List (List ℕ)) → All IsWord words → length words < 64
-    → word_of piece ≡ None → script_of_pieces (map word_text words ++ (piece ∷ more)) ≡ Err (BadWord (bytes_of_words words))
+    → read_word piece ≡ None → script_of_pieces (map word_text words ++ (piece ∷ more)) ≡ Err (BadWord (bytes_of_words words))
 script_of-bad words piece more known room none =
     cond-true _ _ _
     (lt-ltb (first_bad (map word_text words ++ (piece ∷ more))) (length (take 64 (map word_text words ++ (piece ∷ more))))

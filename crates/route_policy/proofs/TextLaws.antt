@@ -9,10 +9,10 @@ use Rattle.route_policy.specs.declared.fault.ScriptFault.TheVariants.{BadWord, T
 use Rattle.route_policy.specs.declared.word.RouteWord.{RouteWord}
 use Rattle.route_policy.specs.declared.word.RouteWord.TheVariants as word
 use Rattle.route_policy.specs.Script.{ScriptState, fresh_script, IsWord, numeral, word_text, script_text}
-use Rattle.route_policy.specs.ScriptReading.{word_of, pieces_of, onto_first, text_pieces, first_bad, start_of, script_of_pieces, script_of}
+use Rattle.route_policy.specs.ScriptReading.{read_word, pieces_of, onto_first, text_pieces, first_bad, start_of, script_of_pieces, script_of}
 use Rattle.route_policy.specs.ScriptLaw.{AreWords, ScriptLaw}
 use Rattle.route_policy.proofs.PieceLaws.{is_comma, pieces_of-some}
-use Rattle.route_policy.proofs.WordLaws.{numeral-one, numeral-two, word_of-Some}
+use Rattle.route_policy.proofs.WordLaws.{numeral-one, numeral-two, read_word-Some}
 use Rattle.route_policy.proofs.ReadingLaws.{is_bad, script_of-words}
 
 -- no byte is a comma
@@ -103,20 +103,20 @@ join-text_pieces (c ∷ cs) = join-pieces_of (c ∷ cs)
 
 -- pieces of which none is bad are the texts of words
 pub record AreTexts (pieces : List (List ℕ)) : Type 0 where
-  pub texts : map word_text (filter_map word_of pieces) ≡ pieces
-  pub each : All IsWord (filter_map word_of pieces)
-  pub as_many : length (filter_map word_of pieces) ≡ length pieces
+  pub texts : map word_text (filter_map read_word pieces) ≡ pieces
+  pub each : All IsWord (filter_map read_word pieces)
+  pub as_many : length (filter_map read_word pieces) ≡ length pieces
 
-pub texts-cons : (piece : List ℕ) (pieces : List (List ℕ)) (found : Option RouteWord) → word_of piece ≡ found → is_none found ≡ false
+pub texts-cons : (piece : List ℕ) (pieces : List (List ℕ)) (found : Option RouteWord) → read_word piece ≡ found → is_none found ≡ false
     → AreTexts pieces → AreTexts (piece ∷ pieces)
 texts-cons piece pieces None is bad rest = absurd (cc bad)
 texts-cons piece pieces (Some w) is good rest =
-    let spelled = word_of-Some piece w is in
-    let found : filter_map word_of (piece ∷ pieces) ≡ w ∷ filter_map word_of pieces =
-    ap (λ o. cons_option o (filter_map word_of pieces)) is in
+    let spelled = read_word-Some piece w is in
+    let found : filter_map read_word (piece ∷ pieces) ≡ w ∷ filter_map read_word pieces =
+    ap (λ o. cons_option o (filter_map read_word pieces)) is in
     record {
-      texts = ap (map word_text) found ∙ ap (λ text. text ∷ map word_text (filter_map word_of pieces)) spelled.text ∙ ap (λ more. piece ∷ more) rest.texts;
-      each = subst (All IsWord) (sym found) (All-cons IsWord w (filter_map word_of pieces) spelled.known rest.each);
+      texts = ap (map word_text) found ∙ ap (λ text. text ∷ map word_text (filter_map read_word pieces)) spelled.text ∙ ap (λ more. piece ∷ more) rest.texts;
+      each = subst (All IsWord) (sym found) (All-cons IsWord w (filter_map read_word pieces) spelled.known rest.each);
       as_many = omega (arith, ap length found, rest.as_many);
     }
 
@@ -128,7 +128,7 @@ texts-from_none_bad (piece ∷ pieces) none = by (cases_Bool (is_bad piece)) (te
         → AreTexts (piece ∷ pieces)
     by (inl bad) rest = absurd (omega (arith, none, ap (λ b. cond (not b) (1 + position_or_len is_bad pieces) 0) bad))
     by (inr good) rest =
-        texts-cons piece pieces (word_of piece) refl good
+        texts-cons piece pieces (read_word piece) refl good
         (rest (omega (arith, none, ap (λ b. cond (not b) (1 + position_or_len is_bad pieces) 0) good)))
 
 -- the three answers to pieces
@@ -136,7 +136,7 @@ abbrev pub at_bad : List (List ℕ) → Result ScriptState ScriptFault
 at_bad pieces = Err (BadWord (start_of pieces (first_bad pieces)))
 
 abbrev pub read_all : List (List ℕ) → Result ScriptState ScriptFault
-read_all pieces = Ok (fresh_script (filter_map word_of pieces))
+read_all pieces = Ok (fresh_script (filter_map read_word pieces))
 
 abbrev pub past_bad : List (List ℕ) → Result ScriptState ScriptFault
 past_bad pieces = if nat_lt 64 (length pieces) then Err TooLong else read_all pieces
@@ -162,8 +162,8 @@ script_of_pieces-Ok pieces s is =
         (cond-false (nat_lt (first_bad pieces) (length (take 64 pieces))) (at_bad pieces) (past_bad pieces) good
         ∙ cond-false (nat_lt 64 (length pieces)) _ _ short)
         ∙ is in
-        let same : fresh_script (filter_map word_of pieces) ≡ s = cc found in
-        let words : filter_map word_of pieces ≡ s.words = ap (λ t. t.words) same in
+        let same : fresh_script (filter_map read_word pieces) ≡ s = cc found in
+        let words : filter_map read_word pieces ≡ s.words = ap (λ t. t.words) same in
         let whole : take 64 pieces ≡ pieces = take_all 64 pieces (ltb-false 64 (length pieces) short) in
         let none : length pieces ≤ position_or_len is_bad pieces =
         subst (λ ps. length ps ≤ position_or_len is_bad ps) whole (ltb-false _ _ good) in

@@ -4,7 +4,7 @@ use Rattle.std.proofs.lemmas.Bool.{cases_Bool, cases_lt, lt-ltb, le-ltb, ltb-tru
 use Rattle.route_policy.specs.declared.word.RouteWord.{RouteWord}
 use Rattle.route_policy.specs.declared.word.RouteWord.TheVariants as word
 use Rattle.route_policy.specs.Script.{IsWord, numeral, word_text}
-use Rattle.route_policy.specs.ScriptReading.{is_digit, below_limit, number_of, lettered, word_of}
+use Rattle.route_policy.specs.ScriptReading.{is_digit, below_limit, number_of, lettered, read_word}
 
 -- a number below a limit, and its text
 pub record Spells (limit : ℕ) (digits : List ℕ) (n : ℕ) : Type 0 where
@@ -134,28 +134,28 @@ lettered-Some letter number w h = by_s (cases_Bool (letter == 115))
     by_s (inr isnt) = by_a isnt (cases_Bool (letter == 97))
 
 -- a piece that is a word is the text of one
-pub word_of-Some : (piece : List ℕ) (w : RouteWord) → word_of piece ≡ Some w → IsSpelled piece w
-word_of-Some [] w h = absurd (cc h)
-word_of-Some (c ∷ []) w h =
+pub read_word-Some : (piece : List ℕ) (w : RouteWord) → read_word piece ≡ Some w → IsSpelled piece w
+read_word-Some [] w h = absurd (cc h)
+read_word-Some (c ∷ []) w h =
     let parts = some_under (c == 98) (Some word.Build) w h in
     let is_w : word.Build ≡ w = cc (parts.1) in
     record {
       text = ap word_text (sym is_w) ∙ ap (λ x. x ∷ []) (sym (eqb-true c 98 parts.0));
       known = subst IsWord is_w tt;
     }
-word_of-Some (c ∷ d ∷ more) w h = lettered-Some c (d ∷ more) w h
+read_word-Some (c ∷ d ∷ more) w h = lettered-Some c (d ∷ more) w h
 
 -- and the text of a word is that word
-pub word_of-lettered : (letter n : ℕ) → word_of (letter ∷ numeral n) ≡ lettered letter (numeral n)
-word_of-lettered letter n = by (cases_lt n 10)
+pub read_word-lettered : (letter n : ℕ) → read_word (letter ∷ numeral n) ≡ lettered letter (numeral n)
+read_word-lettered letter n = by (cases_lt n 10)
   where
-    by : (n < 10) ⊎ (10 ≤ n) → word_of (letter ∷ numeral n) ≡ lettered letter (numeral n)
-    by (inl one) = ap (λ digits. word_of (letter ∷ digits)) (numeral-one n one) ∙ sym (ap (lettered letter) (numeral-one n one))
-    by (inr two) = ap (λ digits. word_of (letter ∷ digits)) (numeral-two n two) ∙ sym (ap (lettered letter) (numeral-two n two))
+    by : (n < 10) ⊎ (10 ≤ n) → read_word (letter ∷ numeral n) ≡ lettered letter (numeral n)
+    by (inl one) = ap (λ digits. read_word (letter ∷ digits)) (numeral-one n one) ∙ sym (ap (lettered letter) (numeral-one n one))
+    by (inr two) = ap (λ digits. read_word (letter ∷ digits)) (numeral-two n two) ∙ sym (ap (lettered letter) (numeral-two n two))
 
-pub word_of-text : (w : RouteWord) → IsWord w → word_of (word_text w) ≡ Some w
-word_of-text word.Build known = refl
-word_of-text (word.Select n) known =
-    word_of-lettered 115 n ∙ ap (option_map word.Select) (number_of-numeral 48 n known (lit≤ tt))
-word_of-text (word.All n) known = word_of-lettered 97 n ∙ ap (option_map word.All) (number_of-numeral 12 n known (lit≤ tt))
-word_of-text (word.By n) known = word_of-lettered 118 n ∙ ap (option_map word.By) (number_of-numeral 48 n known (lit≤ tt))
+pub read_word-text : (w : RouteWord) → IsWord w → read_word (word_text w) ≡ Some w
+read_word-text word.Build known = refl
+read_word-text (word.Select n) known =
+    read_word-lettered 115 n ∙ ap (option_map word.Select) (number_of-numeral 48 n known (lit≤ tt))
+read_word-text (word.All n) known = read_word-lettered 97 n ∙ ap (option_map word.All) (number_of-numeral 12 n known (lit≤ tt))
+read_word-text (word.By n) known = read_word-lettered 118 n ∙ ap (option_map word.By) (number_of-numeral 48 n known (lit≤ tt))

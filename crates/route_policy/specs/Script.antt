@@ -65,7 +65,8 @@ is_match (word.Select conjunct) = is_selection conjunct
 is_match (word.All alias) = is_probe_of_all alias
 is_match (word.By conjunct) = is_probe_by conjunct
 
--- the place of the first route that the first word with a match matches, or of the first candidate where no word matches
+-- the place of the first route that the first word with a match matches, or of the first candidate where no word
+-- matches
 abbrev pub script_choice : List RouteWord → List Route → ℕ
 script_choice words legal =
     option_map_or

@@ -32,10 +32,10 @@ lettered letter number =
     else None
 
 -- the word that these bytes are
-abbrev pub word_of : List ℕ → Option RouteWord
-word_of [] = None
-word_of (c ∷ []) = if c == 98 then Some word.Build else None
-word_of (c ∷ d ∷ more) = lettered c (d ∷ more)
+abbrev pub read_word : List ℕ → Option RouteWord
+read_word [] = None
+read_word (c ∷ []) = if c == 98 then Some word.Build else None
+read_word (c ∷ d ∷ more) = lettered c (d ∷ more)
 
 -- a byte before the first of some pieces
 abbrev pub onto_first : ℕ → List (List ℕ) → List (List ℕ)
@@ -59,7 +59,7 @@ pieces_left (Some bytes) = pieces_of bytes
 
 -- the place of the first of the leading 64 pieces that is no word
 abbrev pub first_bad : List (List ℕ) → ℕ
-first_bad pieces = position_or_len (λ piece. is_none (word_of piece)) (take 64 pieces)
+first_bad pieces = position_or_len (λ piece. is_none (read_word piece)) (take 64 pieces)
 
 -- the first byte of the piece at a place
 abbrev pub start_of : List (List ℕ) → ℕ → ℕ
@@ -70,7 +70,7 @@ abbrev pub script_of_pieces : List (List ℕ) → Result ScriptState ScriptFault
 script_of_pieces pieces =
     if nat_lt (first_bad pieces) (length (take 64 pieces)) then Err (BadWord (start_of pieces (first_bad pieces)))
     else if nat_lt 64 (length pieces) then Err TooLong
-    else Ok (fresh_script (filter_map word_of pieces))
+    else Ok (fresh_script (filter_map read_word pieces))
 
 -- the script that a text is, or its first fault
 abbrev pub script_of : List ℕ → Result ScriptState ScriptFault

@@ -53,7 +53,8 @@ fn rank_of(loads: &[u64; 60], route: &Route) -> Rank
 impl Rank {
     /// Whether it is of a lesser class than another, or of a lesser load in the same class.
     fn is_before(self, other: Rank) -> bool
-        ensures { result ≡ (nat_lt self.class other.class || ((self.class == other.class) && nat_lt self.load other.load)) }
+        ensures { result ≡ (nat_lt self.class other.class
+            || ((self.class == other.class) && nat_lt self.load other.load)) }
     {
         self.class < other.class || (self.class == other.class && self.load < other.load)
     }
@@ -112,7 +113,8 @@ impl Policy for Pressure {
 
     ghost calls = { λ _. None };
 
-    ghost may_choose = { λ s _ legal choice now. (choice ≡ pressure_choice s.loads legal) × (now ≡ after_pressure_choice s legal) };
+    ghost may_choose = { λ s _ legal choice now. (choice ≡ pressure_choice s.loads legal)
+        × (now ≡ after_pressure_choice s legal) };
 
     ghost may_become = { λ s route count now. now ≡ after_pressure_return s route count };
 

@@ -75,9 +75,11 @@ impl<P: Policy> Policy for Recorder<P> {
 
     ghost calls = { told_calls };
 
-    ghost may_choose = { λ r tuple legal choice now. P.may_choose r.inner tuple legal choice now.inner × (now ≡ recorded r now.inner (chose tuple legal choice)) };
+    ghost may_choose = { λ r tuple legal choice now. P.may_choose r.inner tuple legal choice now.inner
+        × (now ≡ recorded r now.inner (chose tuple legal choice)) };
 
-    ghost may_become = { λ r route count now. P.may_become r.inner route count now.inner × (now ≡ recorded r now.inner (returned route count)) };
+    ghost may_become = { λ r route count now. P.may_become r.inner route count now.inner
+        × (now ≡ recorded r now.inner (returned route count)) };
 
     fn choose(&mut self, tuple: &Tuple, legal: &[Route]) -> usize {
         let choice = self.inner.choose(tuple, legal);

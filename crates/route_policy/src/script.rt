@@ -10,7 +10,7 @@ ghost use Rattle.route_policy.specs.ScriptReading.{script_of, pieces_of, pieces_
 use crate::class::first_candidate;
 use crate::fault::ScriptFault;
 use crate::policy::Policy;
-use crate::word::{RouteWord, word_of};
+use crate::word::{RouteWord, read_word};
 use arrayvec::ArrayVec;
 use std::marker::Model;
 use tuple_span::{Route, Tuple};
@@ -80,7 +80,7 @@ impl RouteScript {
                 return Err(ScriptFault::TooLong);
             }
             let (piece, more) = cut(bytes);
-            let Some(word) = word_of(piece) else {
+            let Some(word) = read_word(piece) else {
                 return Err(ScriptFault::BadWord { at });
             };
             words.push(word);
@@ -123,7 +123,8 @@ impl Policy for RouteScript {
 
     ghost calls = { λ _. None };
 
-    ghost may_choose = { λ s _ legal choice now. (choice ≡ script_choice s.words legal) × (now ≡ after_script_choice s) };
+    ghost may_choose = { λ s _ legal choice now. (choice ≡ script_choice s.words legal)
+        × (now ≡ after_script_choice s) };
 
     ghost may_become = { λ s _ _ now. now ≡ s };
 

@@ -2,7 +2,7 @@
 
 ghost use Rattle.std.specs.Prelude.{◌≡◌, ◌+◌, ◌*◌, ◌<◌, ◌≤◌, length, IfSome};
 ghost use Rattle.route_policy.specs.Script.{is_match, goes_by};
-ghost use Rattle.route_policy.specs.ScriptReading.{number_of, lettered, word_of};
+ghost use Rattle.route_policy.specs.ScriptReading.{number_of, lettered, read_word};
 
 use tuple_span::{Route, Via};
 
@@ -70,8 +70,8 @@ fn number_of(limit: u8, digits: &[u8]) -> Option<u8>
 }
 
 /// The word that these bytes are.
-pub(crate) fn word_of(bytes: &[u8]) -> Option<RouteWord>
-    ensures value { result ≡ word_of bytes.now }
+pub(crate) fn read_word(bytes: &[u8]) -> Option<RouteWord>
+    ensures value { result ≡ read_word bytes.now }
     ensures short { IfSome result (λ _. length bytes.now ≤ 3) }
 {
     match bytes {

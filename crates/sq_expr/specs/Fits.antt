@@ -1,4 +1,6 @@
--- When a condition or a block fits tables and predicates: a property of types and column numbers, which binding ensures. And when the rows that a condition is evaluated over are there.
+-- When a condition or a block fits tables and predicates: a property of types and column numbers, which binding
+-- ensures.
+-- And when the rows that a condition is evaluated over are there.
 use Rattle.std.specs.Prelude.{◌≡◌, ℕ, ◌<◌, ◌≤◌, ◌⊎◌, ◌↔◌, List, [], ◌∷◌, ◌++◌, length, map, Option, Some, None, IsSome, IfSome, IsSomeAnd, All, Contains, IsBitSet, ℤ, true, ⊤, slice_get, slice_index, option_and_then, unsigned_abs}
 use Rattle.std.specs.List.{flat_map, concat}
 use Rattle.std.specs.Option.{option_map, option_to_list}
@@ -22,7 +24,8 @@ use Rattle.sq_expr.specs.declared.block.Block.{Block}
 
 -- the type of a column of a table, where there is one
 abbrev pub column_kind : List Relation → ℕ → ℕ → Option ColType
-column_kind tables table column = option_map (λ c. c.kind) (option_and_then (λ t. slice_get t.columns column) (slice_get tables table))
+column_kind tables table column =
+    option_map (λ c. c.kind) (option_and_then (λ t. slice_get t.columns column) (slice_get tables table))
 
 -- the type of a column of an alias, where each alias uses a table
 abbrev pub kind_in : List Relation → List ℕ → ColumnOf → Option ColType
@@ -54,18 +57,20 @@ FitsSide has class side.Null = ⊤
 FitsSide has class (side.Text t) = class ≡ Texts
 FitsSide has class (side.Column c) = HasClass has class c
 FitsSide has class (side.Sum terms) =
-    (class ≡ Numbers) × (0 < length terms) × (length terms ≤ 8) × All (λ (t : Term). FitsTerm has t.factor t.column) terms
+    (class ≡ Numbers) × (0 < length terms) × (length terms ≤ 8)
+    × All (λ (t : Term). FitsTerm has t.factor t.column) terms
 
 -- an argument of a predicate is null or of a type
 abbrev pub FitsArg : (ColumnOf → ColType → Type 0) → ColType → Arg → Type 0
 FitsArg has kind (arg.Literal v) = HasKind kind v
 FitsArg has kind (arg.Column c) = has c kind
 
--- one level of a condition fits: compared sides are of one class, and a predicate is there and gets arguments of its types
+-- one level of a condition fits: compared sides are of one class; a predicate is there and gets arguments of its types
 abbrev pub FitsHere : (ℕ → Option Kinds) → (ColumnOf → ColType → Type 0) → Cond-F Cond → Type 0
 FitsHere kinds has (level.Compare x cmp y) = (class : Class) × (FitsSide has class x × FitsSide has class y)
 FitsHere kinds has (level.IsNull x) = (class : Class) × FitsSide has class x
-FitsHere kinds has (level.Call number x y) = IsSomeAnd (kinds number) (λ k. FitsArg has k.first x × FitsArg has k.second y)
+FitsHere kinds has (level.Call number x y) =
+    IsSomeAnd (kinds number) (λ k. FitsArg has k.first x × FitsArg has k.second y)
 FitsHere kinds has (level.Not part) = ⊤
 FitsHere kinds has (level.All parts) = ⊤
 FitsHere kinds has (level.Any parts) = ⊤
@@ -120,14 +125,15 @@ pub record Covers (tables : List Relation) (uses rows : List ℕ) (span : ℕ) (
 abbrev pub tables_used : Block → List ℕ
 tables_used block = map (λ (u : AliasUse). u.table) block.aliases
 
--- an alias of a block: its table is there, it has a scan or a look-up, and the look-up is by a column of the table
+-- an alias of a block: its table is there, and it has a scan, or a look-up by a column of the table
 pub record FitsAlias (tables : List Relation) (u : AliasUse) : Type 0 where
   pub table : u.table < length tables
   pub reached : (u.access.scan ≡ true) ⊎ IsSome u.access.look_up
   pub look_up : IfSome u.access.look_up (λ column. IsSome (column_kind tables u.table column))
 
 -- a conjunct of a block: its condition fits, and its span is the set of the aliases that occur
-pub record FitsConjunct (kinds : ℕ → Option Kinds) (tables : List Relation) (uses : List ℕ) (c : Conjunct) : Type 0 where
+pub record FitsConjunct (kinds : ℕ → Option Kinds) (tables : List Relation) (uses : List ℕ) (c : Conjunct)
+    : Type 0 where
   pub cond : FitsCond kinds tables uses c.cond
   pub span : (alias : ℕ) → (IsBitSet c.span alias ↔ Contains (aliases_of c.cond) alias)
 
@@ -139,5 +145,9 @@ pub record IsFit (kinds : ℕ → Option Kinds) (tables : List Relation) (block 
   pub few_conjuncts : length block.conjuncts ≤ 48
   pub conjuncts : All (FitsConjunct kinds tables (tables_used block)) block.conjuncts
   pub some_output : 0 < length block.output
-  pub output : All (λ (o : OutCol). IsSome (kind_in tables (tables_used block) record { alias = o.alias; column = o.column })) block.output
-  pub order : All (λ (k : OrderKey). IsSome (kind_in tables (tables_used block) record { alias = k.alias; column = k.column })) block.order
+  pub output : All
+      (λ (o : OutCol). IsSome (kind_in tables (tables_used block) record { alias = o.alias; column = o.column }))
+      block.output
+  pub order : All
+      (λ (k : OrderKey). IsSome (kind_in tables (tables_used block) record { alias = k.alias; column = k.column }))
+      block.order

@@ -26,10 +26,10 @@ value_in tables uses rows c =
     unwrap_or chosen value.Null
 
 -- the number of a rank, in millionths
-abbrev pub number_in : Option Rank → Option ℤ
-number_in None = None
-number_in (Some (Number n)) = Some n
-number_in (Some (Text t)) = None
+abbrev pub rank_number : Option Rank → Option ℤ
+rank_number None = None
+rank_number (Some (Number n)) = Some n
+rank_number (Some (Text t)) = None
 
 -- the sum of two numbers: none where one of them is missing
 abbrev pub plus : Option ℤ → Option ℤ → Option ℤ
@@ -38,7 +38,7 @@ plus x y = option_and_then (λ a. option_map (λ b. a +ℤ b) y) x
 -- what a term of a sum stands for, in millionths: a literal, or a factor times a number
 abbrev pub term_number : (ColumnOf → Value) → ℤ → Option ColumnOf → Option ℤ
 term_number at factor None = Some (millionths factor 0)
-term_number at factor (Some c) = option_map (λ n. factor *ℤ n) (number_in (rank_of (at c)))
+term_number at factor (Some c) = option_map (λ n. factor *ℤ n) (rank_number (rank_of (at c)))
 
 -- what a sum stands for: an exact number of millionths, and none where a column is null
 abbrev pub sum_number : (ColumnOf → Value) → List Term → Option ℤ

@@ -5,14 +5,14 @@ use Rattle.sq_expr.specs.declared.cond.Side.{Side}
 use Rattle.sq_expr.specs.declared.cond.Side.TheVariants as side
 
 -- a sum of one term without a column
-abbrev pub is_literal : List Term → Bool
-is_literal [] = false
-is_literal (t ∷ []) = is_none t.column
-is_literal (t ∷ (u ∷ more)) = false
+abbrev pub is_constant : List Term → Bool
+is_constant [] = false
+is_constant (t ∷ []) = is_none t.column
+is_constant (t ∷ (u ∷ more)) = false
 
 -- NULL, a text, a column, or a sum of one term without a column
 abbrev pub is_plain : Side → Bool
 is_plain side.Null = true
 is_plain (side.Text t) = true
 is_plain (side.Column c) = true
-is_plain (side.Sum terms) = is_literal terms
+is_plain (side.Sum terms) = is_constant terms

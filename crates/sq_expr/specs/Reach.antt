@@ -33,7 +33,8 @@ pub record IsLed (block : Block) (set' : ℕ → Bool) (alias : ℕ) : Type 0 wh
 
 -- a set that holds the scanned aliases and those that are led to from it
 pub record IsClosed (block : Block) (set' : ℕ → Bool) : Type 0 where
-  pub scanned : (alias : ℕ) (u : AliasUse) → slice_get block.aliases alias ≡ Some u → u.access.scan ≡ true → set' alias ≡ true
+  pub scanned : (alias : ℕ) (u : AliasUse)
+      → slice_get block.aliases alias ≡ Some u → u.access.scan ≡ true → set' alias ≡ true
   pub led : (alias : ℕ) → IsLed block set' alias → set' alias ≡ true
 
 -- an alias that stands in each closed set, and so in the least

@@ -11,7 +11,8 @@ use Rattle.sq_expr.specs.declared.cond.Cond.{Cond, every-Cond}
 pub record IsInRange (tables : List Relation) (uses rows : List ℕ) (c : ColumnOf) : Type 0 where
   pub alias : c.alias < 12
   pub table : slice_index uses c.alias < length tables
-  pub row : (t : Relation) → slice_get tables (slice_index uses c.alias) ≡ Some t → slice_index rows c.alias < length t.rows
+  pub row : (t : Relation) → slice_get tables (slice_index uses c.alias) ≡ Some t
+      → slice_index rows c.alias < length t.rows
   pub column : (t : Relation) → slice_get tables (slice_index uses c.alias) ≡ Some t → c.column < length t.columns
 
 -- a column of this type that stands in the chosen row of its alias

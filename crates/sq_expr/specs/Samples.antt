@@ -1,4 +1,4 @@
--- Serves tests: what their conditions keep: each column is one of a table's, at alias 0 or 1, which both use that table.
+-- Serves tests: each column of their conditions is one of a table's, at alias 0 or 1, which both use that table.
 use Rattle.std.specs.Prelude.{◌≡◌, ℕ, zero, suc, ◌<◌, Bool, true, false, List, [], ◌∷◌, Option, Some, None, replicate, codes}
 use Rattle.sq_value.specs.Relation.{Relation}
 use Rattle.sq_value.specs.declared.value.ColType.{ColType}

@@ -76,8 +76,8 @@ impl<'t> Chosen<'t> {
 }
 
 // Whether these are the terms of one integer.
-fn is_literal(terms: &[Term]) -> bool
-    ensures { result ≡ spec.is_literal terms.now }
+fn is_constant(terms: &[Term]) -> bool
+    ensures { result ≡ spec.is_constant terms.now }
 {
     match terms {
         [term] => term.column.is_none(),
@@ -92,7 +92,7 @@ impl Side {
         ensures { result ≡ spec.is_plain self.now }
     {
         match self {
-            Side::Sum(terms) => is_literal(terms.as_slice()),
+            Side::Sum(terms) => is_constant(terms.as_slice()),
             _ => true,
         }
     }

@@ -19,8 +19,11 @@ fn asked(x: Truth, named: Truth) -> Truth
 
 // What a predicate gives of two arguments over the chosen rows.
 fn call<F: Predicates>(number: u8, x: &Arg, y: &Arg, rows: &Chosen<'_>, functions: &F) -> Truth
-    requires { IsSomeAnd (F.kinds_of functions.now number) (λ k. FitsArg (IsSeen rows.now.tables.now rows.now.uses rows.now.rows) k.first x.now × FitsArg (IsSeen rows.now.tables.now rows.now.uses rows.now.rows) k.second y.now) }
-    ensures { let at = value_in rows.now.tables.now rows.now.uses rows.now.rows in result ≡ F.gives number (arg_value at x.now) (arg_value at y.now) }
+    requires { IsSomeAnd (F.kinds_of functions.now number)
+        (λ k. FitsArg (IsSeen rows.now.tables.now rows.now.uses rows.now.rows) k.first x.now
+        × FitsArg (IsSeen rows.now.tables.now rows.now.uses rows.now.rows) k.second y.now) }
+    ensures { let at = value_in rows.now.tables.now rows.now.uses rows.now.rows in
+        result ≡ F.gives number (arg_value at x.now) (arg_value at y.now) }
 {
     functions.call(number, argument(x, rows), argument(y, rows))
 }
@@ -29,7 +32,8 @@ fn call<F: Predicates>(number: u8, x: &Arg, y: &Arg, rows: &Chosen<'_>, function
 #[cycle(evaluation)]
 fn least<F: Predicates>(parts: &[Cond], rows: &Chosen<'_>, functions: &F) -> Truth
     requires { All (IsReadyOver (F.kinds_of functions.now) rows.now.tables.now rows.now.uses rows.now.rows) parts.now }
-    ensures { result ≡ least (map (truth_of F.gives (value_in rows.now.tables.now rows.now.uses rows.now.rows)) parts.now) }
+    ensures { let at = value_in rows.now.tables.now rows.now.uses rows.now.rows in
+        result ≡ least (map (truth_of F.gives at) parts.now) }
 {
     let mut least = Truth::True;
     for part in parts {
@@ -45,7 +49,8 @@ fn least<F: Predicates>(parts: &[Cond], rows: &Chosen<'_>, functions: &F) -> Tru
 #[cycle(evaluation)]
 fn greatest<F: Predicates>(parts: &[Cond], rows: &Chosen<'_>, functions: &F) -> Truth
     requires { All (IsReadyOver (F.kinds_of functions.now) rows.now.tables.now rows.now.uses rows.now.rows) parts.now }
-    ensures { result ≡ greatest (map (truth_of F.gives (value_in rows.now.tables.now rows.now.uses rows.now.rows)) parts.now) }
+    ensures { let at = value_in rows.now.tables.now rows.now.uses rows.now.rows in
+        result ≡ greatest (map (truth_of F.gives at) parts.now) }
 {
     let mut greatest = Truth::False;
     for part in parts {

@@ -18,7 +18,8 @@ use sq_value::{Cmp, Key, Truth, Value, compare, key_of, key_order, truth_of_orde
 // null.
 fn side_key<'t>(side: &'t Side, rows: &Chosen<'t>) -> Option<Key<'t>>
     requires { (class : Class) × FitsSide (IsSeen rows.now.tables.now rows.now.uses rows.now.rows) class side.now }
-    ensures { option_map rank_of_key result ≡ side_rank (value_in rows.now.tables.now rows.now.uses rows.now.rows) side.now }
+    ensures { let at = value_in rows.now.tables.now rows.now.uses rows.now.rows in
+        option_map rank_of_key result ≡ side_rank at side.now }
 {
     match side {
         Side::Null => None,
@@ -44,8 +45,10 @@ pub fn is_null(side: &Side, rows: &Chosen<'_>) -> bool
 
 // The truth of a comparison over the chosen rows. Two columns are compared where they lie.
 pub fn compare_sides(left: &Side, cmp: Cmp, right: &Side, rows: &Chosen<'_>) -> Truth
-    requires { (class : Class) × (FitsSide (IsSeen rows.now.tables.now rows.now.uses rows.now.rows) class left.now × FitsSide (IsSeen rows.now.tables.now rows.now.uses rows.now.rows) class right.now) }
-    ensures { let at = value_in rows.now.tables.now rows.now.uses rows.now.rows in result ≡ truth_of_order (order_between (side_rank at left.now) (side_rank at right.now)) cmp }
+    requires { (class : Class) × (FitsSide (IsSeen rows.now.tables.now rows.now.uses rows.now.rows) class left.now
+        × FitsSide (IsSeen rows.now.tables.now rows.now.uses rows.now.rows) class right.now) }
+    ensures { let at = value_in rows.now.tables.now rows.now.uses rows.now.rows in
+        result ≡ truth_of_order (order_between (side_rank at left.now) (side_rank at right.now)) cmp }
 {
     match (left, right) {
         (Side::Column(x), Side::Column(y)) => compare(rows.value(*x), rows.value(*y), cmp),
@@ -57,7 +60,8 @@ pub fn compare_sides(left: &Side, cmp: Cmp, right: &Side, rows: &Chosen<'_>) -> 
 pub fn argument<'t>(arg: &'t Arg, rows: &Chosen<'t>) -> &'t Value
     requires { (k : ColType) × FitsArg (IsSeen rows.now.tables.now rows.now.uses rows.now.rows) k arg.now }
     ensures value { result.now ≡ arg_value (value_in rows.now.tables.now rows.now.uses rows.now.rows) arg.now }
-    ensures kind { (k : ColType) → FitsArg (IsSeen rows.now.tables.now rows.now.uses rows.now.rows) k arg.now → HasKind k result.now }
+    ensures kind { (k : ColType)
+        → FitsArg (IsSeen rows.now.tables.now rows.now.uses rows.now.rows) k arg.now → HasKind k result.now }
 {
     match arg {
         Arg::Literal(value) => value,

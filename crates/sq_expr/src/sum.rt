@@ -32,7 +32,8 @@ fn literal(factor: i64) -> i128
 // A term of a sum: a literal, or a factor times the value of a column. None where that is null.
 fn term_number(term: Term, rows: &Chosen<'_>) -> Option<i128>
     requires { FitsTerm (IsSeen rows.now.tables.now rows.now.uses rows.now.rows) term.factor term.column }
-    ensures value { result ≡ term_number (value_in rows.now.tables.now rows.now.uses rows.now.rows) term.factor term.column }
+    ensures value { let at = value_in rows.now.tables.now rows.now.uses rows.now.rows in
+        result ≡ term_number at term.factor term.column }
     ensures low { IfSome result (λ n. neg_ℤ (pos (2 ^ 114)) ≤ℤ n) }
     ensures high { IfSome result (λ n. n ≤ℤ pos (2 ^ 114)) }
 {
@@ -48,7 +49,8 @@ fn term_number(term: Term, rows: &Chosen<'_>) -> Option<i128>
 // The sum of at most 8 terms, which 128 bits always hold. None where one of them is null.
 pub fn sum(terms: &[Term], rows: &Chosen<'_>) -> Option<i128>
     requires few { length terms.now ≤ 8 }
-    requires fits { All (λ (t : Term). FitsTerm (IsSeen rows.now.tables.now rows.now.uses rows.now.rows) t.factor t.column) terms.now }
+    requires fits { All (λ (t : Term).
+        FitsTerm (IsSeen rows.now.tables.now rows.now.uses rows.now.rows) t.factor t.column) terms.now }
     ensures { result ≡ sum_number (value_in rows.now.tables.now rows.now.uses rows.now.rows) terms.now }
 {
     let mut sum = 0;

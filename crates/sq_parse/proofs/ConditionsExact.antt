@@ -5,7 +5,7 @@ use Rattle.sq_parse.specs.declared.mark.Mark.TheVariants as k
 use Rattle.sq_parse.specs.declared.stop.Stop.TheVariants as stop
 use Rattle.sq_parse.specs.declared.tree.Tree.{Tree}
 use Rattle.sq_parse.specs.declared.tree.Tree.TheVariants as t
-use Rattle.sq_parse.specs.Mark.{is, same, is_sign, is_truth}
+use Rattle.sq_parse.specs.Mark.{is, same, is_sign, is_truth_word}
 use Rattle.sq_parse.specs.Tok.{Tok}
 use Rattle.sq_parse.specs.Tree.{tested, all_of, any_of}
 use Rattle.sq_parse.specs.Rules as rule
@@ -44,7 +44,7 @@ module _ (limits : Limits) (nested : (n : ℕ) → limits.narrow n ≡ true → 
   test : (l : List Tok → Tree → Type 0) (p : Parser Tree) → Exact (rule.enclosed l) p (is k.Open) anything → Exact (g.test limits l) (read.test limits p) begins_primary ends_test
   unfolding read.test same
   test l p x = gives (λ p. tested p.0 p.1) (followed (primary l p x)
-      (maybe (is k.Is) ends_test (after k.Is refl (followed (negated limits is_truth refl) (token is_truth refl) refl)) refl refl refl) refl)
+      (maybe (is k.Is) ends_test (after k.Is refl (followed (negated limits is_truth_word refl) (token is_truth_word refl) refl)) refl refl refl) refl)
 
   negation : (m l : List Tok → Tree → Type 0) (q p : Parser Tree) → Exact (rule.after k.Not m) q (is k.Not) ends_test → Exact (rule.enclosed l) p (is k.Open) anything
       → Exact (g.negation limits m l) (read.negation limits q p) begins_condition ends_test

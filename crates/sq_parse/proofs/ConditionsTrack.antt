@@ -4,7 +4,7 @@ use Rattle.sq_parse.specs.declared.mark.Mark.TheVariants as k
 use Rattle.sq_parse.specs.declared.stop.Stop.TheVariants as stop
 use Rattle.sq_parse.specs.declared.tree.Tree.{Tree}
 use Rattle.sq_parse.specs.declared.tree.Tree.TheVariants as t
-use Rattle.sq_parse.specs.Mark.{is, same, is_truth}
+use Rattle.sq_parse.specs.Mark.{is, same, is_truth_word}
 use Rattle.sq_parse.specs.Tok.{Tok, next}
 use Rattle.sq_parse.specs.Tree.{tested, all_of, any_of}
 use Rattle.sq_parse.specs.Rules as rule
@@ -85,7 +85,7 @@ module _ (C : Faults) where
   test : (l l' : List Tok → Tree → Type 0) (p p' : Parser Tree) → Inner l l' p p' → Tracks (g.test shipped l) (g.test unlimited l') (read.test shipped p) (read.test unlimited p') C unstarred unstarred
   unfolding read.test read.primary same
   test l l' p p' x = gives (λ p. tested p.0 p.1) (followed (chosen (is k.Open) x (along (λ us a h. inr h) (λ us a h. inr h) predicate))
-      (maybe (is k.Is) refl (plainly (after k.Is refl refl refl refl (followed (predicates.negated C) (token C is_truth unstarred k.True refl refl refl refl) refl)))) refl)
+      (maybe (is k.Is) refl (plainly (after k.Is refl refl refl refl (followed (predicates.negated C) (token C is_truth_word unstarred k.True refl refl refl refl) refl)))) refl)
 
   negation : (m m' l l' : List Tok → Tree → Type 0) (q q' p p' : Parser Tree) → Lower m m' l l' q q' → Inner l l' p p' → Tracks (g.negation shipped m l) (g.negation unlimited m' l') (read.negation shipped q p) (read.negation unlimited q' p') C unstarred unstarred
   unfolding read.negation

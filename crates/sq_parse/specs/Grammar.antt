@@ -16,7 +16,7 @@ use Rattle.sq_parse.specs.declared.tree.Operand.{Operand}
 use Rattle.sq_parse.specs.declared.tree.Operand.TheVariants as o
 use Rattle.sq_parse.specs.declared.tree.Tree.{Tree}
 use Rattle.sq_parse.specs.declared.tree.Tree.TheVariants as t
-use Rattle.sq_parse.specs.Mark.{is, is_name, is_sign, is_comparison, is_truth, is_way, is_end}
+use Rattle.sq_parse.specs.Mark.{is, is_name, is_sign, is_comparison, is_truth_word, is_way, is_end}
 use Rattle.sq_parse.specs.Tree.{name_of, column_of, number_term, column_term, signed, sum_of, begin_of, comparison_by, tested, all_of, any_of, source_of, joined_on, way_of, statement_of}
 use Rattle.sq_parse.specs.Rules.{Rule, token, mark, number, ◌⊗◌, ◌⊕◌, ◌⊛◌, optional, many, after, separated, list_of, enclosed, nothing}
 
@@ -133,7 +133,8 @@ module _ (limits : Limits) where
 
   -- primary [ IS [ NOT ] ( TRUE | FALSE | UNKNOWN ) ]
   abbrev pub test : Rule Tree → Rule Tree
-  test inner = (λ p. tested p.0 p.1) ⊛ (primary inner ⊗ optional (after k.Is (optional (mark k.Not) ⊗ token is_truth)))
+  test inner = (λ p. tested p.0 p.1)
+      ⊛ (primary inner ⊗ optional (after k.Is (optional (mark k.Not) ⊗ token is_truth_word)))
 
   -- NOT neg | test
   abbrev pub negation : Rule Tree → Rule Tree → Rule Tree

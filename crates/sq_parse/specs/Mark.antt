@@ -79,8 +79,8 @@ abbrev pub is_comparison : Mark → Bool
 is_comparison m = is k.Equal m || is k.NotEqual m || is k.Less m || is k.LessOrEqual m || is k.Greater m
     || is k.GreaterOrEqual m
 
-abbrev pub is_truth : Mark → Bool
-is_truth m = is k.True m || is k.False m || is k.Unknown m
+abbrev pub is_truth_word : Mark → Bool
+is_truth_word m = is k.True m || is k.False m || is k.Unknown m
 
 -- ASC or DESC, and FIRST or LAST
 abbrev pub is_way : Mark → Bool

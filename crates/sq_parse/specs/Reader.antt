@@ -19,7 +19,7 @@ use Rattle.sq_parse.specs.declared.tree.Operand.{Operand}
 use Rattle.sq_parse.specs.declared.tree.Operand.TheVariants as o
 use Rattle.sq_parse.specs.declared.tree.Tree.{Tree}
 use Rattle.sq_parse.specs.declared.tree.Tree.TheVariants as t
-use Rattle.sq_parse.specs.Mark.{is, is_name, is_sign, is_comparison, is_truth, is_way, is_end}
+use Rattle.sq_parse.specs.Mark.{is, is_name, is_sign, is_comparison, is_truth_word, is_way, is_end}
 use Rattle.sq_parse.specs.Tok.{Tok, next, behind, done}
 use Rattle.sq_parse.specs.Tree.{name_of, column_of, number_term, column_term, signed, sum_of, begin_of, comparison_by, truth_by, tested, all_of, any_of, source_of, joined_on, statement_of}
 use Rattle.sq_parse.specs.Reading.{Parser, pure, ◌>>=◌, ◌<$>◌, ◌<+>◌, token, mark, number, choose, optional, many, after, separated, list_of, enclosed, refuse}
@@ -116,7 +116,7 @@ abbrev pub begins_join : Mark → Bool
 begins_join m = is k.Comma m || is k.Cross m || is k.Inner m || is k.Join m
 
 unfoldable pub truth : Parser Truth
-truth = (λ m. truth_by m.mark) <$> token is_truth
+truth = (λ m. truth_by m.mark) <$> token is_truth_word
 
 module _ (limits : Limits) where
   -- a number, held to the narrow bound where a `*` comes behind it
@@ -193,7 +193,7 @@ module _ (limits : Limits) where
 
   unfoldable pub test : Parser Tree → Parser Tree
   test inner = (λ p. tested p.0 p.1)
-      <$> (primary inner <+> optional (is k.Is) (after k.Is (optional (is k.Not) (mark k.Not) <+> token is_truth)))
+      <$> (primary inner <+> optional (is k.Is) (after k.Is (optional (is k.Not) (mark k.Not) <+> token is_truth_word)))
 
   unfoldable pub negation : Parser Tree → Parser Tree → Parser Tree
   negation lower inner = choose (is k.Not) (t.Not <$> lower) (test inner)

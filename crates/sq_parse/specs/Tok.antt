@@ -27,16 +27,16 @@ content _ z = z
 unfoldable pub decimal : Text → ℕ
 decimal z = fold (λ n b. 10 * n + (b - 48)) 0 z
 
-abbrev pub number_in : Form → Text → ℕ
-number_in form.Number z = decimal z
-number_in _ z = 0
+abbrev pub number_written : Form → Text → ℕ
+number_written form.Number z = decimal z
+number_written _ z = 0
 
 abbrev pub tok_of : Piece → Tok
 tok_of p = record {
   at = p.at;
   mark = mark_of p.form p.bytes;
   text = content p.form p.bytes;
-  number = number_in p.form p.bytes;
+  number = number_written p.form p.bytes;
 }
 
 -- the tokens of a text that begins at a place

@@ -1,5 +1,5 @@
-use Rattle.std.proofs.Common.{◌≡◌, List, ◌∷◌, [], ◌++◌, cond, ap, ◌∙◌, Result, Ok, Err, IfOk}
-use Rattle.std.specs.Prelude.{IsOk, String}
+use Rattle.std.proofs.Common.{◌∷◌, [], ◌++◌, cond, ap, ◌∙◌, Result, Ok, Err, IfOk}
+use Rattle.std.specs.Prelude.{IsOk}
 use Rattle.catalogue.proofs.names.push_name.Goals as goal
 
 -- what an Ok shows, where there is one

@@ -1,9 +1,8 @@
-use Rattle.std.proofs.Common.{◌≡◌, Some, subst, sym, ap}
+use Rattle.std.proofs.Common.{◌≡◌, Some, subst}
 use Rattle.std.specs.Prelude.{Option, IfSome}
 use Rattle.sq_value.specs.Relation.{HasKind}
 use Rattle.sq_value.specs.declared.value.Value.{Value}
 use Rattle.sq_value.specs.declared.value.ColType.{ColType}
-use Rattle.sq_expr.specs.declared.cond.Side.{Side}
 use Rattle.sq_expr.specs.Fits.{FitsSide}
 use Rattle.sq_expr.specs.Reading.{IsSeen}
 use Rattle.sq_expr.proofs.ReadLemmas.{Comparable-columns}

@@ -7,7 +7,7 @@ use Rattle.route_policy.specs.Script.{IsWord, word_text}
 use Rattle.route_policy.specs.ScriptReading.{text_pieces, pieces_of, pieces_left, script_of_pieces}
 use Rattle.route_policy.specs.declared.fault.ScriptFault.TheVariants.{BadWord}
 use Rattle.route_policy.proofs.PieceLaws.{pieces_of-some}
-use Rattle.route_policy.proofs.WordLaws.{word_of-Some}
+use Rattle.route_policy.proofs.WordLaws.{read_word-Some}
 use Rattle.route_policy.proofs.ReadingLaws.{script_of-words, script_of-long, script_of-bad, pieces-more}
 use Rattle.route_policy.proofs.script.RouteScript.read.Goals as goal
 
@@ -30,8 +30,8 @@ returns-then-is_full c =
     (ap script_of_pieces (c.loop-rest.invariant.pieces ∙ ap (λ pieces. map word_text c.loop-rest.words.items ++ pieces) (left ∙ some.2))
     ∙ script_of-long c.loop-rest.words.items some.0 some.1 c.loop-rest.invariant.known full)
 
-pub returns-in_default-word_of : goal.returns-in_default-word_of
-returns-in_default-word_of c =
+pub returns-in_default-read_word : goal.returns-in_default-read_word
+returns-in_default-read_word c =
     let left : pieces_left (option_copied c.loop-rest.rest) ≡ pieces_of c.in-Some.bytes.now = ap (λ rest. pieces_left (option_copied rest)) c.in-Some.is in
     let not_full : length c.loop-rest.words.items ≡ 64 → ⊥ = eqb-false _ _ (sym c.is_full.ensures.value ∙ c.if-is_full.false) in
     sym
@@ -39,7 +39,7 @@ returns-in_default-word_of c =
     (c.loop-rest.invariant.pieces ∙ ap (λ pieces. map word_text c.loop-rest.words.items ++ pieces) (left ∙ c.cut.ensures.pieces))
     ∙ script_of-bad c.loop-rest.words.items c.cut.result.0.now (pieces_left (option_copied c.cut.result.1)) c.loop-rest.invariant.known
     (below_64 (length c.loop-rest.words.items) c.loop-rest.invariant.room not_full)
-    (sym c.in_default-word_of.ensures.value)
+    (sym c.in_default-read_word.ensures.value)
     ∙ ap (λ at. Err (BadWord at)) (sym c.loop-rest.invariant.start))
 
 pub loop-rest-preserved : goal.loop-rest-preserved
@@ -47,20 +47,20 @@ loop-rest-preserved c =
     let left : pieces_left (option_copied c.loop-rest.rest) ≡ pieces_of c.in-Some.bytes.now = ap (λ rest. pieces_left (option_copied rest)) c.in-Some.is in
     let not_full : length c.loop-rest.words.items ≡ 64 → ⊥ = eqb-false _ _ (sym c.is_full.ensures.value ∙ c.if-is_full.false) in
     let room : length c.loop-rest.words.items < 64 = below_64 (length c.loop-rest.words.items) c.loop-rest.invariant.room not_full in
-    let spelled = word_of-Some c.cut.result.0.now c.in-Some-word_of.word (sym c.in-Some-word_of.ensures.value) in
-    let long : length (word_text c.in-Some-word_of.word) ≡ length c.cut.result.0.now = ap length spelled.text in
+    let spelled = read_word-Some c.cut.result.0.now c.in-Some-read_word.word (sym c.in-Some-read_word.ensures.value) in
+    let long : length (word_text c.in-Some-read_word.word) ≡ length c.cut.result.0.now = ap length spelled.text in
     record {
       pieces =
-          pieces-more c.loop-rest.words.items c.in-Some-word_of.word c.cut.result.0.now (text_pieces c.args.text.now) (pieces_left (option_copied c.loop-rest.rest))
+          pieces-more c.loop-rest.words.items c.in-Some-read_word.word c.cut.result.0.now (text_pieces c.args.text.now) (pieces_left (option_copied c.loop-rest.rest))
           (pieces_left (option_copied c.cut.result.1)) c.loop-rest.invariant.pieces (left ∙ c.cut.ensures.pieces) spelled.text
           ∙ ap (λ items. map word_text items ++ pieces_left (option_copied c.cut.result.1)) (sym c.push.ensures.items);
       known =
           subst (All IsWord) (sym c.push.ensures.items)
-          (All-push IsWord c.loop-rest.words.items c.in-Some-word_of.word c.loop-rest.invariant.known spelled.known);
+          (All-push IsWord c.loop-rest.words.items c.in-Some-read_word.word c.loop-rest.invariant.known spelled.known);
       start =
           rw c.push.ensures.items
           (omega
-          (arith, sum_by_push (λ word. length (word_text word) + 1) c.loop-rest.words.items c.in-Some-word_of.word, c.loop-rest.invariant.start, long));
-      few = omega (arith, c.push.ensures.len, c.loop-rest.invariant.few, c.in-Some-word_of.ensures.short);
+          (arith, sum_by_push (λ word. length (word_text word) + 1) c.loop-rest.words.items c.in-Some-read_word.word, c.loop-rest.invariant.start, long));
+      few = omega (arith, c.push.ensures.len, c.loop-rest.invariant.few, c.in-Some-read_word.ensures.short);
       room = omega (arith, c.push.ensures.len, room);
     }
