@@ -14,5 +14,6 @@ pub mod ClosingLemmas
 pub mod FollowLemmas
 pub mod FollowedLemmas
 pub mod FollowedEnd
+pub mod AccountLemmas
 mod WorkedScans
 mod WorkedLookUps
