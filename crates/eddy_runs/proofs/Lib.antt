@@ -15,5 +15,6 @@ pub mod FollowLemmas
 pub mod FollowedLemmas
 pub mod FollowedEnd
 pub mod AccountLemmas
+pub mod TupleCounts
 mod WorkedScans
 mod WorkedLookUps
