@@ -9,7 +9,10 @@ pub mod PermutationLemmas
 pub mod AnswerLemmas
 pub mod CloseLemmas
 pub mod SharedLemmas
-mod WorkedScans
-mod WorkedLookUps
 pub mod ToldLemmas
 pub mod ClosingLemmas
+pub mod FollowLemmas
+pub mod FollowedLemmas
+pub mod FollowedEnd
+mod WorkedScans
+mod WorkedLookUps

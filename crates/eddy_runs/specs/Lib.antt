@@ -4,6 +4,7 @@ pub mod Reached
 pub mod Complete
 pub mod Told
 pub mod Recorded
+pub mod Followed
 pub mod View
 pub mod Answers
 pub mod Close
