@@ -17,9 +17,13 @@ impl<K: Kept, T: Stamped + Copy> Board<K, T> {
         requires cursor { cursor < length (lengths_of self.now) }
         ensures seat { IsSeatOf self.now seat.new }
         ensures idle { IsIdle seat.old → IsIdle seat.new }
-        ensures completes { (family : List K) → Completes K.history K.extends family (view seat.new) → Completes K.history K.extends family (view seat.old) }
-        ensures row { IfSome result (λ row. (row < slice_index (lengths_of self.now) cursor) × (dried cursor (view seat.old).dry ≡ 0) × (view seat.new ≡ got_row (view seat.old) cursor row)) }
-        ensures none { IfNone result (((dried cursor (view seat.old).dry ≡ 0) × (view seat.new ≡ got_none (view seat.old) cursor)) ⊎ ((0 < dried cursor (view seat.old).dry) × (view seat.new ≡ view seat.old))) }
+        ensures completes { (family : List K) → Completes K.history K.extends family (view seat.new)
+            → Completes K.history K.extends family (view seat.old) }
+        ensures row { IfSome result (λ row. (row < slice_index (lengths_of self.now) cursor)
+            × (dried cursor (view seat.old).dry ≡ 0) × (view seat.new ≡ got_row (view seat.old) cursor row)) }
+        ensures none { IfNone result (((dried cursor (view seat.old).dry ≡ 0)
+            × (view seat.new ≡ got_none (view seat.old) cursor))
+            ⊎ ((0 < dried cursor (view seat.old).dry) × (view seat.new ≡ view seat.old))) }
     {
         let at = cursor as usize;
         if seat.dry[at] {

@@ -30,10 +30,16 @@ pub(crate) fn deal<K: Kept, T: Stamped + Copy>(
 ) -> Vec<Seat<K, T>>
     requires some { 0 < board.now.seats }
     requires board { first.table_id ≡ board.now.table.shared.table_id }
-    requires views { first.me ≡ (seats_from board.now.lengths.items board.now.table.shared.key.opening.value.items (Some board.now.table.shared.key.pool.value) 0 board.now.seats, []) }
+    requires views { first.me ≡ (
+      seats_from board.now.lengths.items board.now.table.shared.key.opening.value.items
+          (Some board.now.table.shared.key.pool.value) 0 board.now.seats,
+      [],
+    ) }
     requires list { (list.items ≡ []) × (vec_len list ≡ 0) × (board.now.seats ≤ vec_capacity list) }
     ensures seats { Each (λ s. IsSeatOf board.now s × IsIdle s) result.items }
-    ensures views { map (λ s. view s) result.items ≡ seats_from board.now.lengths.items board.now.table.shared.key.opening.value.items (Some board.now.table.shared.key.pool.value) 0 board.now.seats }
+    ensures views { map (λ s. view s) result.items
+        ≡ seats_from board.now.lengths.items board.now.table.shared.key.opening.value.items
+        (Some board.now.table.shared.key.pool.value) 0 board.now.seats }
     ensures count { (vec_len result ≡ board.now.seats) × (board.now.seats ≤ vec_capacity result) }
 {
     for _k in 0..board.seats - 1 {
@@ -51,7 +57,8 @@ pub(crate) fn gather<K: Kept, T: Stamped + Copy>(
 ) -> Token<K, T>
     requires some { 0 < vec_len seats }
     requires words { 0 < board.now.shared.table_id.words }
-    requires seats { Each (λ s. (s.token.table_id ≡ board.now.shared.table_id) × IsOne s.token × (s.token.me.1 ≡ [])) seats.items }
+    requires seats { Each (λ s. (s.token.table_id ≡ board.now.shared.table_id) × IsOne s.token
+        × (s.token.me.1 ≡ [])) seats.items }
     ensures board { result.table_id ≡ board.now.shared.table_id }
     ensures views { result.me ≡ (map (λ s. view s) seats.items, []) }
 {

@@ -47,7 +47,8 @@ fn rooms<K: Kept, T: Stamped + Copy>(
     ensures words { IfOk result (λ r. r.words.items ≡ replicate (32 + 8 * modules) 0) }
     ensures lengths { IfOk result (λ r. r.lengths.items ≡ lengths.now) }
     ensures waiting { IfOk result (λ r. vec_len r.waiting ≡ modules + 1) }
-    ensures slots { IfOk result (λ r. (r.slots.items ≡ []) × (vec_len r.slots ≡ 0) × (modules + 1 ≤ vec_capacity r.slots)) }
+    ensures slots { IfOk result (λ r. (r.slots.items ≡ []) × (vec_len r.slots ≡ 0)
+        × (modules + 1 ≤ vec_capacity r.slots)) }
     ensures seats { IfOk result (λ r. (r.seats.items ≡ []) × (vec_len r.seats ≡ 0) × (seats ≤ vec_capacity r.seats)) }
 {
     let words = Vec::from_elem(alloc, 0u64, 32 + 8 * modules)?;
@@ -84,9 +85,11 @@ impl<K: Kept, T: Stamped + Copy> Board<K, T> {
         requires seats { (0 < seats) × (seats ≤ 17) }
         requires empty { All (λ y. (K.history y ≡ []) × (K.marks y ≡ [])) modules.items }
         requires still { pool.moves ≡ [] }
-        ensures board { IfOk result (λ r. (lengths_of r.0 ≡ lengths.now) × (seats_of r.0 ≡ seats) × (modules_of r.0 ≡ vec_len modules)) }
+        ensures board { IfOk result (λ r. (lengths_of r.0 ≡ lengths.now) × (seats_of r.0 ≡ seats)
+            × (modules_of r.0 ≡ vec_len modules)) }
         ensures seats { IfOk result (λ r. All (λ s. IsSeatOf r.0 s × IsIdle s) r.1.items) }
-        ensures views { IfOk result (λ r. map (λ s. view s) r.1.items ≡ seats_from lengths.now modules.items (Some pool) 0 seats) }
+        ensures views { IfOk result (λ r. map (λ s. view s) r.1.items
+            ≡ seats_from lengths.now modules.items (Some pool) 0 seats) }
         ensures count { IfOk result (λ r. (vec_len r.1 ≡ seats) × (seats ≤ vec_capacity r.1)) }
         ensures refused { IfErr result (λ r. (r.modules.items ≡ modules.items) × (r.pool ≡ pool)) }
     {
@@ -133,7 +136,8 @@ impl<K: Kept, T: Stamped + Copy> Board<K, T> {
     pub fn close(self, seats: Vec<Seat<K, T>>) -> Closed<K, T>
         requires all { vec_len seats ≡ seats_of self }
         requires seats { All (λ s. IsSeatOf self s × IsIdle s) seats.items }
-        ensures closing { IsClosing K.history K.extends K.marks T.same_plan (lengths_of self) result.drawn (map (λ s. view s) seats.items) result.modules.items result.pool }
+        ensures closing { IsClosing K.history K.extends K.marks T.same_plan (lengths_of self) result.drawn
+            (map (λ s. view s) seats.items) result.modules.items result.pool }
         ensures count { vec_len result.modules ≡ modules_of self }
     {
         let Board {

@@ -20,7 +20,8 @@ pub(crate) fn move_in<K, T: Stamped + Copy>(
     requires room { vec_len modules.old + 1 ≤ vec_capacity slots.old }
     requires none { vec_len slots.old ≡ 0 }
     ensures slots { slots.new.items ≡ map Lot.OfModule modules.old.items ++ Lot.OfPool pool ∷ [] }
-    ensures modules { (modules.new.items ≡ []) × (vec_len modules.new ≡ 0) × (vec_capacity modules.new ≡ vec_capacity modules.old) }
+    ensures modules { (modules.new.items ≡ []) × (vec_len modules.new ≡ 0)
+        × (vec_capacity modules.new ≡ vec_capacity modules.old) }
 {
     while let Some(module) = modules.pop() {
         slots.push_reserved(Lot::OfModule(module));
@@ -34,7 +35,8 @@ pub(crate) fn move_out<K, T: Stamped + Copy>(
     modules: &mut Vec<K>,
     mut slots: Vec<Lot<K, T>>,
 ) -> Pool<T>
-    requires slots { (were : List K) × (pool : PoolState T) × (slots.items ≡ map Lot.OfModule were ++ Lot.OfPool pool ∷ []) }
+    requires slots { (were : List K) × (pool : PoolState T)
+        × (slots.items ≡ map Lot.OfModule were ++ Lot.OfPool pool ∷ []) }
     requires empty { (modules.old.items ≡ []) × (vec_len modules.old ≡ 0) }
     requires room { vec_len slots ≤ vec_capacity modules.old + 1 }
     ensures { map Lot.OfModule modules.new.items ++ Lot.OfPool result ∷ [] ≡ slots.items }
@@ -64,13 +66,16 @@ pub(crate) fn refill<K, T: Stamped + Copy>(
 ) -> (Vec<K>, Pool<T>)
     requires full { IsFull closed.old.slots }
     requires count { slots_len closed.old.slots ≡ count + 1 }
-    requires modules { (m : ℕ) → m < count → (k : K) × (get_elem? (slots_items closed.old.slots) m ≡ some (Lot.OfModule k)) }
+    requires modules { (m : ℕ) → m < count → (k : K)
+        × (get_elem? (slots_items closed.old.slots) m ≡ some (Lot.OfModule k)) }
     requires pool { (p : PoolState T) × (get_elem? (slots_items closed.old.slots) count ≡ some (Lot.OfPool p)) }
     requires room { (vec_len modules ≡ 0) × (count ≤ vec_capacity modules) }
-    ensures modules { (m : ℕ) (k : K) → m < count → get_elem? (slots_items closed.old.slots) m ≡ some (Lot.OfModule k) → get_elem? result.0.items m ≡ some k }
+    ensures modules { (m : ℕ) (k : K) → m < count → get_elem? (slots_items closed.old.slots) m ≡ some (Lot.OfModule k)
+        → get_elem? result.0.items m ≡ some k }
     ensures pool { get_elem? (slots_items closed.old.slots) count ≡ some (Lot.OfPool result.1) }
     ensures count { vec_len result.0 ≡ count }
-    ensures emptied { (k : ℕ) → k < slots_len closed.new.slots → slice_index_or (slots_filled closed.new.slots) k false ≡ false }
+    ensures emptied { (k : ℕ) → k < slots_len closed.new.slots → slice_index_or (slots_filled closed.new.slots) k false
+        ≡ false }
 {
     for i in 0..count {
         let lot = closed.take(i);

@@ -95,9 +95,14 @@ impl<T: Stamped + Copy> Pool<T> {
     pub fn put(&mut self, item: T) -> Result<(), PoolRefused>
         requires left { 0 < self.old.puts_left }
         requires plan { T.same_plan item self.old.sample }
-        ensures put { IfOk result (λ _. self.new ≡ record self.old { moves = self.old.moves ++ record { item = item; put = true } ∷ []; puts_left = self.old.puts_left - 1 }) }
+        ensures put { IfOk result (λ _. self.new ≡ record self.old {
+          moves = self.old.moves
+              ++ record { item = item; put = true } ∷ [];
+          puts_left = self.old.puts_left - 1;
+        }) }
         ensures room { IfOk result (λ _. length (left_in self.old.moves) < 256) }
-        ensures full { IfErr result (λ e. (e ≡ PoolRefused.Full) × (self.new ≡ self.old) × (length (left_in self.old.moves) ≡ 256)) }
+        ensures full { IfErr result (λ e. (e ≡ PoolRefused.Full) × (self.new ≡ self.old)
+            × (length (left_in self.old.moves) ≡ 256)) }
     {
         if self.items.len() == ROOM {
             return Err(PoolRefused::Full);
@@ -115,9 +120,11 @@ impl<T: Stamped + Copy> Pool<T> {
     /// # Errors
     /// `Empty`: the pool holds none.
     pub fn take(&mut self) -> Result<T, PoolRefused>
-        ensures taken { IfOk result (λ item. self.new ≡ record self.old { moves = self.old.moves ++ record { item = item; put = false } ∷ [] }) }
+        ensures taken { IfOk result (λ item. self.new
+            ≡ record self.old { moves = self.old.moves ++ record { item = item; put = false } ∷ [] }) }
         ensures last { IfOk result (λ item. left_in self.old.moves ≡ left_in self.new.moves ++ item ∷ []) }
-        ensures empty { IfErr result (λ e. (e ≡ PoolRefused.Empty) × (self.new ≡ self.old) × (left_in self.old.moves ≡ [])) }
+        ensures empty { IfErr result (λ e. (e ≡ PoolRefused.Empty) × (self.new ≡ self.old)
+            × (left_in self.old.moves ≡ [])) }
     {
         let Some(item) = self.items.pop() else {
             return Err(PoolRefused::Empty);

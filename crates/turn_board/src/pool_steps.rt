@@ -25,7 +25,10 @@ impl<K: Kept, T: Stamped + Copy> Board<K, T> {
         requires sized { length (view_at token.old).saw ≡ self.now.modules }
         ensures board { (token.new.table_id ≡ token.old.table_id) × (token.new.id ≡ token.old.id) }
         ensures failed { result ≢ 0 → token.new.me ≡ token.old.me }
-        ensures took { result ≡ 0 → (y : PoolState T) × (top : ℕ) × (token.new.me ≡ (took_pool (view_at token.old) top y ∷ [], (self.now.modules, Lot.OfPool y) ∷ [])) × ((x : PoolState T) → (view_at token.old).pool_saw ≡ Some x → IsLaterPool T.same_plan x y) × Each (λ v. v.put ≡ true → T.stamp v.item < top) y.moves }
+        ensures took { result ≡ 0 → (y : PoolState T) × (top : ℕ)
+            × (token.new.me ≡ (took_pool (view_at token.old) top y ∷ [], (self.now.modules, Lot.OfPool y) ∷ []))
+            × ((x : PoolState T) → (view_at token.old).pool_saw ≡ Some x → IsLaterPool T.same_plan x y)
+            × Each (λ v. v.put ≡ true → T.stamp v.item < top) y.moves }
     {
         let word = TURNS + 8 * self.modules as usize;
         self.table
@@ -71,7 +74,8 @@ impl<K: Kept, T: Stamped + Copy> Board<K, T> {
         requires one { IsOne token.old }
         requires hold { (h : PoolHold T) × ((view_at token.old).pooling ≡ Some h) }
         ensures board { (token.new.table_id ≡ token.old.table_id) × (token.new.id ≡ token.old.id) }
-        ensures learnt { (h : PoolHold T) → (view_at token.old).pooling ≡ Some h → (result ≡ h.top) × (result ≤ 68719476736) × (token.new.me ≡ (learnt (view_at token.old) result ∷ [], token.old.me.1)) }
+        ensures learnt { (h : PoolHold T) → (view_at token.old).pooling ≡ Some h → (result ≡ h.top)
+            × (result ≤ 68719476736) × (token.new.me ≡ (learnt (view_at token.old) result ∷ [], token.old.me.1)) }
     {
         let word = TURNS + 2 + 8 * self.modules as usize;
         self.table.shared.load::<Learning>(token, word)
@@ -81,7 +85,8 @@ impl<K: Kept, T: Stamped + Copy> Board<K, T> {
     pub(crate) fn raise_as(&self, token: &mut Token<K, T>, top: u64)
         requires board { token.old.table_id ≡ self.now.table.shared.table_id }
         requires one { IsOne token.old }
-        requires hold { (h : PoolHold T) × ((view_at token.old).pooling ≡ Some h) × (h.top ≤ top) × (top ≤ (view_at token.old).reach) }
+        requires hold { (h : PoolHold T) × ((view_at token.old).pooling ≡ Some h) × (h.top ≤ top)
+            × (top ≤ (view_at token.old).reach) }
         ensures board { (token.new.table_id ≡ token.old.table_id) × (token.new.id ≡ token.old.id) }
         ensures raised { token.new.me ≡ (raised (view_at token.old) top ∷ [], token.old.me.1) }
     {
@@ -92,9 +97,13 @@ impl<K: Kept, T: Stamped + Copy> Board<K, T> {
     // One step on the word that counts the pool's moves.
     pub(crate) fn note_pool_as(&self, token: &mut Token<K, T>, count: u64)
         requires board { token.old.table_id ≡ self.now.table.shared.table_id }
-        requires hold { (h : PoolHold T) × (z : PoolState T) × (token.old.me ≡ (view_at token.old ∷ [], (self.now.modules, Lot.OfPool z) ∷ [])) × ((view_at token.old).pooling ≡ Some h) × (h.noted ≡ false) × IsLaterPool T.same_plan h.taken z × Each (λ v. v.put ≡ true → T.stamp v.item < h.top) z.moves × (count ≡ length z.moves) }
+        requires hold { (h : PoolHold T) × (z : PoolState T)
+            × (token.old.me ≡ (view_at token.old ∷ [], (self.now.modules, Lot.OfPool z) ∷ []))
+            × ((view_at token.old).pooling ≡ Some h) × (h.noted ≡ false) × IsLaterPool T.same_plan h.taken z
+            × Each (λ v. v.put ≡ true → T.stamp v.item < h.top) z.moves × (count ≡ length z.moves) }
         ensures board { (token.new.table_id ≡ token.old.table_id) × (token.new.id ≡ token.old.id) }
-        ensures noted { (z : PoolState T) → token.old.me.1 ≡ (self.now.modules, Lot.OfPool z) ∷ [] → token.new.me ≡ (noted_pool (view_at token.old) z ∷ [], token.old.me.1) }
+        ensures noted { (z : PoolState T) → token.old.me.1 ≡ (self.now.modules, Lot.OfPool z) ∷ [] → token.new.me
+            ≡ (noted_pool (view_at token.old) z ∷ [], token.old.me.1) }
     {
         let word = TURNS + 1 + 8 * self.modules as usize;
         self.table.shared.store::<NotingPool>(token, word, count)
@@ -103,7 +112,9 @@ impl<K: Kept, T: Stamped + Copy> Board<K, T> {
     // One step on the pool's turn word, after the note.
     pub(crate) fn give_pool_as(&self, token: &mut Token<K, T>)
         requires board { token.old.table_id ≡ self.now.table.shared.table_id }
-        requires hold { (h : PoolHold T) × (z : PoolState T) × (token.old.me ≡ (view_at token.old ∷ [], (self.now.modules, Lot.OfPool z) ∷ [])) × ((view_at token.old).pooling ≡ Some h) × (h.noted ≡ true) × ((view_at token.old).pool_saw ≡ Some z) }
+        requires hold { (h : PoolHold T) × (z : PoolState T)
+            × (token.old.me ≡ (view_at token.old ∷ [], (self.now.modules, Lot.OfPool z) ∷ []))
+            × ((view_at token.old).pooling ≡ Some h) × (h.noted ≡ true) × ((view_at token.old).pool_saw ≡ Some z) }
         ensures board { (token.new.table_id ≡ token.old.table_id) × (token.new.id ≡ token.old.id) }
         ensures gave { token.new.me ≡ (gave_pool (view_at token.old) ∷ [], []) }
     {

@@ -23,7 +23,8 @@ impl<K: Kept, T: Stamped + Copy> Board<K, T> {
         ensures pooling { IsPooling T.stamp result seat.new }
         ensures later { (x : PoolState T) → (view seat.old).pool_saw ≡ Some x → IsLaterPool T.same_plan x result }
         ensures view { (top : ℕ) × (view seat.new ≡ learnt (took_pool (view seat.old) top result) top) }
-        ensures completes { (family : List K) → Completes K.history K.extends family (view seat.new) → Completes K.history K.extends family (view seat.old) }
+        ensures completes { (family : List K) → Completes K.history K.extends family (view seat.new)
+            → Completes K.history K.extends family (view seat.old) }
         ensures learnt { Each (λ v. v.put ≡ true → T.stamp v.item < (view seat.new).reach) result.moves }
     {
         self.take_pool_turn(rt, &mut seat.token);
@@ -38,7 +39,10 @@ impl<K: Kept, T: Stamped + Copy> Board<K, T> {
         requires idle { (token.old.me.1 ≡ []) × ((view_at token.old).pooling ≡ None) }
         requires sized { length (view_at token.old).saw ≡ self.now.modules }
         ensures board { token.new.table_id ≡ token.old.table_id }
-        ensures took { (y : PoolState T) × (top : ℕ) × (token.new.me ≡ (took_pool (view_at token.old) top y ∷ [], (self.now.modules, Lot.OfPool y) ∷ [])) × ((x : PoolState T) → (view_at token.old).pool_saw ≡ Some x → IsLaterPool T.same_plan x y) × Each (λ v. v.put ≡ true → T.stamp v.item < top) y.moves }
+        ensures took { (y : PoolState T) × (top : ℕ)
+            × (token.new.me ≡ (took_pool (view_at token.old) top y ∷ [], (self.now.modules, Lot.OfPool y) ∷ []))
+            × ((x : PoolState T) → (view_at token.old).pool_saw ≡ Some x → IsLaterPool T.same_plan x y)
+            × Each (λ v. v.put ≡ true → T.stamp v.item < top) y.moves }
     {
         for _ in rt.forever() {
             self.await_free(rt, self.modules);
@@ -52,11 +56,13 @@ impl<K: Kept, T: Stamped + Copy> Board<K, T> {
     /// Gives the pool and its turn back.
     pub fn give_pool(&self, seat: &mut Seat<K, T>, pool: Pool<T>)
         requires seat { IsSeatOf self.now seat.old }
-        requires pooling { (y : PoolState T) × IsPooling T.stamp y seat.old × IsLaterPool T.same_plan y pool × Each (λ v. v.put ≡ true → T.stamp v.item < (view seat.old).reach) (drop (length y.moves) pool.moves) }
+        requires pooling { (y : PoolState T) × IsPooling T.stamp y seat.old × IsLaterPool T.same_plan y pool
+            × Each (λ v. v.put ≡ true → T.stamp v.item < (view seat.old).reach) (drop (length y.moves) pool.moves) }
         ensures seat { IsSeatOf self.now seat.new }
         ensures idle { IsIdle seat.new }
         ensures gave { view seat.new ≡ gave_pool (noted_pool (view seat.old) pool) }
-        ensures completes { (family : List K) → Completes K.history K.extends family (view seat.new) → Completes K.history K.extends family (view seat.old) }
+        ensures completes { (family : List K) → Completes K.history K.extends family (view seat.new)
+            → Completes K.history K.extends family (view seat.old) }
     {
         let count = pool.moves().len() as u64;
         let top = pool.top(seat.bound);

@@ -32,7 +32,9 @@ impl<K: Kept, T: Stamped + Copy> Board<K, T> {
         requires found { found % 2 ≡ 0 }
         ensures board { (token.new.table_id ≡ token.old.table_id) × (token.new.id ≡ token.old.id) }
         ensures failed { result ≢ found → token.new.me ≡ token.old.me }
-        ensures took { result ≡ found → (y : K) × (token.new.me ≡ (took (view_at token.old) slot (found / 2 / 32) y ∷ [], (slot, Lot.OfModule y) ∷ [])) × Sees K.history K.extends slot (view_at token.old) y × Each (λ e. e.1 < found / 2 / 32) (K.history y) }
+        ensures took { result ≡ found → (y : K) ×
+            (token.new.me ≡ (took (view_at token.old) slot (found / 2 / 32) y ∷ [], (slot, Lot.OfModule y) ∷ []))
+            × Sees K.history K.extends slot (view_at token.old) y × Each (λ e. e.1 < found / 2 / 32) (K.history y) }
     {
         let word = TURNS + 8 * slot as usize;
         self.table
@@ -73,11 +75,13 @@ impl<K: Kept, T: Stamped + Copy> Board<K, T> {
     pub(crate) fn stamp_as<D: DrawFor>(&self, token: &mut Token<K, T>) -> u64
         requires board { token.old.table_id ≡ self.now.table.shared.table_id }
         requires one { IsOne token.old }
-        requires hold { (h : Hold K) × ((view_at token.old).hold ≡ Some h) × (h.noted ≡ false) × (h.slot < self.now.modules) × (row_entered D.of_row (K.history h.taken ++ h.since) ≡ 0) }
+        requires hold { (h : Hold K) × ((view_at token.old).hold ≡ Some h) × (h.noted ≡ false)
+            × (h.slot < self.now.modules) × (row_entered D.of_row (K.history h.taken ++ h.since) ≡ 0) }
         requires row { D.of_row < 4294967296 }
         ensures board { (token.new.table_id ≡ token.old.table_id) × (token.new.id ≡ token.old.id) }
         ensures drew { token.new.me ≡ (drew (view_at token.old) D.of_row result ∷ [], token.old.me.1) }
-        ensures above { ((view_at token.old).reach ≤ result) × (result ≤ 68719476736) × ((h : Hold K) → (view_at token.old).hold ≡ Some h → h.bound ≤ result) }
+        ensures above { ((view_at token.old).reach ≤ result) × (result ≤ 68719476736)
+            × ((h : Hold K) → (view_at token.old).hold ≡ Some h → h.bound ≤ result) }
     {
         self.table.shared.fetch_add::<Drawing<D>>(token, 0, 1)
     }
@@ -86,9 +90,14 @@ impl<K: Kept, T: Stamped + Copy> Board<K, T> {
     pub(crate) fn note_as(&self, token: &mut Token<K, T>, slot: u32, count: u64)
         requires board { token.old.table_id ≡ self.now.table.shared.table_id }
         requires slot { slot < self.now.modules }
-        requires hold { (h : Hold K) × (z : K) × (token.old.me ≡ (view_at token.old ∷ [], (slot, Lot.OfModule z) ∷ [])) × ((view_at token.old).hold ≡ Some h) × (h.noted ≡ false) × (h.slot ≡ slot) × K.extends h.taken z × (K.history z ≡ K.history h.taken ++ h.since) × (count ≡ length (K.history z)) }
+        requires hold { (h : Hold K) × (z : K) × (token.old.me ≡ (view_at token.old ∷ [], (slot, Lot.OfModule z) ∷ []))
+            × ((view_at token.old).hold ≡ Some h) × (h.noted ≡ false) × (h.slot ≡ slot) × K.extends h.taken z
+            × (K.history z ≡ K.history h.taken ++ h.since) × (count ≡ length (K.history z)) }
         ensures board { (token.new.table_id ≡ token.old.table_id) × (token.new.id ≡ token.old.id) }
-        ensures noted { (z : K) → token.old.me.1 ≡ (slot, Lot.OfModule z) ∷ [] → (token.new.me ≡ (noted (view_at token.old) z ∷ [], token.old.me.1)) × (slot_of (view_at token.old).hold ≡ slot → get_elem? (noted (view_at token.old) z).saw slot ≡ some z) }
+        ensures noted { (z : K) → token.old.me.1 ≡ (slot, Lot.OfModule z) ∷ []
+            → (token.new.me ≡ (noted (view_at token.old) z ∷ [], token.old.me.1))
+            × (slot_of (view_at token.old).hold ≡ slot → get_elem? (noted (view_at token.old) z).saw slot
+            ≡ some z) }
     {
         let word = TURNS + 1 + 8 * slot as usize;
         self.table.shared.store::<Noting>(token, word, count)
@@ -98,9 +107,16 @@ impl<K: Kept, T: Stamped + Copy> Board<K, T> {
     pub(crate) fn mark_as(&self, token: &mut Token<K, T>, slot: u32, count: u64)
         requires board { token.old.table_id ≡ self.now.table.shared.table_id }
         requires slot { slot < self.now.modules }
-        requires hold { (h : Hold K) × (z : K) × (token.old.me ≡ (view_at token.old ∷ [], (slot, Lot.OfModule z) ∷ [])) × ((view_at token.old).hold ≡ Some h) × (h.noted ≡ true) × (h.marked ≡ false) × (h.slot ≡ slot) × (get_elem? (view_at token.old).saw slot ≡ some z) × (length (K.marks h.taken) ≤ length (K.marks z)) × (unended (K.marks h.taken) ≤ slice_index (view_at token.old).owed slot + unended (K.marks z)) × (debts (marked_by K.marks (view_at token.old) z (Some h)) ≤ 1) × (count ≡ length (K.marks z)) }
+        requires hold { (h : Hold K) × (z : K) × (token.old.me ≡ (view_at token.old ∷ [], (slot, Lot.OfModule z) ∷ []))
+            × ((view_at token.old).hold ≡ Some h) × (h.noted ≡ true) × (h.marked ≡ false) × (h.slot ≡ slot)
+            × (get_elem? (view_at token.old).saw slot ≡ some z) × (length (K.marks h.taken) ≤ length (K.marks z))
+            × (unended (K.marks h.taken) ≤ slice_index (view_at token.old).owed slot + unended (K.marks z))
+            × (debts (marked_by K.marks (view_at token.old) z (Some h)) ≤ 1)
+            × (count ≡ length (K.marks z)) }
         ensures board { (token.new.table_id ≡ token.old.table_id) × (token.new.id ≡ token.old.id) }
-        ensures marked { (z : K) → token.old.me.1 ≡ (slot, Lot.OfModule z) ∷ [] → (token.new.me ≡ (marked K.marks (view_at token.old) z ∷ [], token.old.me.1)) × (unended (K.marks z) < 32) }
+        ensures marked { (z : K) → token.old.me.1 ≡ (slot, Lot.OfModule z) ∷ []
+            → (token.new.me ≡ (marked K.marks (view_at token.old) z ∷ [], token.old.me.1))
+            × (unended (K.marks z) < 32) }
     {
         let word = TURNS + 2 + 8 * slot as usize;
         self.table.shared.store::<Marking>(token, word, count)
@@ -111,7 +127,10 @@ impl<K: Kept, T: Stamped + Copy> Board<K, T> {
         requires board { token.old.table_id ≡ self.now.table.shared.table_id }
         requires slot { slot < self.now.modules }
         requires small { (bound < 288230376151711744) × (open_keys < 32) }
-        requires hold { (h : Hold K) × (z : K) × (token.old.me ≡ (view_at token.old ∷ [], (slot, Lot.OfModule z) ∷ [])) × ((view_at token.old).hold ≡ Some h) × (h.noted ≡ true) × (h.marked ≡ true) × (h.slot ≡ slot) × (get_elem? (view_at token.old).saw slot ≡ some z) × (open_keys ≡ unended (K.marks z)) × (bound ≡ h.bound) }
+        requires hold { (h : Hold K) × (z : K) × (token.old.me ≡ (view_at token.old ∷ [], (slot, Lot.OfModule z) ∷ []))
+            × ((view_at token.old).hold ≡ Some h) × (h.noted ≡ true) × (h.marked ≡ true) × (h.slot ≡ slot)
+            × (get_elem? (view_at token.old).saw slot ≡ some z) × (open_keys ≡ unended (K.marks z))
+            × (bound ≡ h.bound) }
         ensures board { (token.new.table_id ≡ token.old.table_id) × (token.new.id ≡ token.old.id) }
         ensures gave { token.new.me ≡ (gave (view_at token.old) ∷ [], []) }
     {
@@ -129,8 +148,10 @@ impl<K: Kept, T: Stamped + Copy> Board<K, T> {
         requires few { length (view_at token.old).lengths ≤ 16 }
         requires fresh { dried cursor (view_at token.old).dry ≡ 0 }
         ensures board { (token.new.table_id ≡ token.old.table_id) × (token.new.id ≡ token.old.id) }
-        ensures row { result < slice_index (view_at token.old).lengths cursor → token.new.me ≡ (got_row (view_at token.old) cursor result ∷ [], token.old.me.1) }
-        ensures none { slice_index (view_at token.old).lengths cursor ≤ result → token.new.me ≡ (got_none (view_at token.old) cursor ∷ [], token.old.me.1) }
+        ensures row { result < slice_index (view_at token.old).lengths cursor → token.new.me
+            ≡ (got_row (view_at token.old) cursor result ∷ [], token.old.me.1) }
+        ensures none { slice_index (view_at token.old).lengths cursor ≤ result → token.new.me
+            ≡ (got_none (view_at token.old) cursor ∷ [], token.old.me.1) }
     {
         let word = CURSORS + cursor as usize;
         self.table.shared.fetch_add::<Claiming>(token, word, 1)
@@ -146,10 +167,12 @@ pub(crate) fn stamp_for<K: Kept, T: Stamped + Copy, D: DrawFor>(
     requires picked { row ≡ D.of_row }
     requires board { token.old.table_id ≡ board.now.table.shared.table_id }
     requires one { IsOne token.old }
-    requires hold { (h : Hold K) × ((view_at token.old).hold ≡ Some h) × (h.noted ≡ false) × (h.slot < board.now.modules) × (row_entered row (K.history h.taken ++ h.since) ≡ 0) }
+    requires hold { (h : Hold K) × ((view_at token.old).hold ≡ Some h) × (h.noted ≡ false)
+        × (h.slot < board.now.modules) × (row_entered row (K.history h.taken ++ h.since) ≡ 0) }
     ensures board { (token.new.table_id ≡ token.old.table_id) × (token.new.id ≡ token.old.id) }
     ensures drew { token.new.me ≡ (drew (view_at token.old) row result ∷ [], token.old.me.1) }
-    ensures above { ((view_at token.old).reach ≤ result) × (result ≤ 68719476736) × ((h : Hold K) → (view_at token.old).hold ≡ Some h → h.bound ≤ result) }
+    ensures above { ((view_at token.old).reach ≤ result) × (result ≤ 68719476736)
+        × ((h : Hold K) → (view_at token.old).hold ≡ Some h → h.bound ≤ result) }
 {
     let _row = row;
     board.stamp_as::<D>(token)

@@ -1,3 +1,4 @@
+//! Boards that one thread works, and boards that several do.
 ghost use Rattle.std.specs.Prelude.{◌≡◌, ◌<◌, ◌≤◌, [], length, All, vec_len, vec_capacity, IfOk};
 ghost use Rattle.turn_board.specs.Boards.{IsSeatOf, IsIdle, lengths_of, modules_of, seats_of};
 
@@ -30,7 +31,8 @@ fn board_of(
     seats: u32,
 ) -> Result<(Board<Rows, Ticket>, Vec<Seat<Rows, Ticket>>), AllocError>
     requires { (0 < modules) × (modules ≤ 16) × (length lengths.now ≤ 16) × (0 < seats) × (seats ≤ 17) }
-    ensures board { IfOk result (λ r. (lengths_of r.0 ≡ lengths.now) × (seats_of r.0 ≡ seats) × (modules_of r.0 ≡ modules)) }
+    ensures board { IfOk result (λ r. (lengths_of r.0 ≡ lengths.now) × (seats_of r.0 ≡ seats)
+        × (modules_of r.0 ≡ modules)) }
     ensures seats { IfOk result (λ r. All (λ s. IsSeatOf r.0 s × IsIdle s) r.1.items) }
     ensures count { IfOk result (λ r. vec_len r.1 ≡ seats) }
 {

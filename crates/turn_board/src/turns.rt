@@ -24,8 +24,10 @@ impl<K: Kept, T: Stamped + Copy> Board<K, T> {
         requires slot { slot < modules_of self.now }
         ensures seat { IsSeatOf self.now seat.new }
         ensures busy { IsBusy K.history K.extends slot result [] seat.new }
-        ensures view { (bound : ℕ) × (view seat.new ≡ took (view seat.old) slot bound result) × Each (λ e. e.1 < bound) (K.history result) }
-        ensures completes { (family : List K) → Completes K.history K.extends family (view seat.new) → Completes K.history K.extends family (view seat.old) }
+        ensures view { (bound : ℕ) × (view seat.new ≡ took (view seat.old) slot bound result)
+            × Each (λ e. e.1 < bound) (K.history result) }
+        ensures completes { (family : List K) → Completes K.history K.extends family (view seat.new)
+            → Completes K.history K.extends family (view seat.old) }
         ensures sees { Sees K.history K.extends slot (view seat.old) result }
     {
         seat.bound = self.take_turn(rt, &mut seat.token, slot);
@@ -40,7 +42,11 @@ impl<K: Kept, T: Stamped + Copy> Board<K, T> {
         requires slot { slot < self.now.modules }
         ensures board { token.new.table_id ≡ token.old.table_id }
         ensures small { result < 288230376151711744 }
-        ensures took { (y : K) × (token.new.me ≡ (took (view_at token.old) slot result y ∷ [], (slot, Lot.OfModule y) ∷ [])) × Sees K.history K.extends slot (view_at token.old) y × Each (λ e. e.1 < result) (K.history y) }
+        ensures took { (y : K) × (token.new.me ≡ (
+          took (view_at token.old) slot result y ∷ [],
+          (slot, Lot.OfModule y)
+              ∷ [],
+        )) × Sees K.history K.extends slot (view_at token.old) y × Each (λ e. e.1 < result) (K.history y) }
     {
         for _ in rt.forever() {
             let found = self.await_free(rt, slot);
@@ -55,12 +61,16 @@ impl<K: Kept, T: Stamped + Copy> Board<K, T> {
     pub fn stamp(&self, seat: &mut Seat<K, T>, slot: u32, row: u32) -> u64
         requires seat { IsSeatOf self.now seat.old }
         requires slot { slot < modules_of self.now }
-        requires busy { (y : K) × (since : List (ℕ × ℕ)) × IsBusy K.history K.extends slot y since seat.old × (row_entered row (K.history y ++ since) ≡ 0) }
+        requires busy { (y : K) × (since : List (ℕ × ℕ)) × IsBusy K.history K.extends slot y since seat.old
+            × (row_entered row (K.history y ++ since) ≡ 0) }
         ensures seat { IsSeatOf self.now seat.new }
-        ensures busy { (y : K) (since : List (ℕ × ℕ)) → IsBusy K.history K.extends slot y since seat.old → IsBusy K.history K.extends slot y (since ++ (row, result) ∷ []) seat.new }
+        ensures busy { (y : K) (since : List (ℕ × ℕ)) → IsBusy K.history K.extends slot y since seat.old
+            → IsBusy K.history K.extends slot y (since ++ (row, result) ∷ []) seat.new }
         ensures drew { view seat.new ≡ drew (view seat.old) row result }
-        ensures completes { (family : List K) → Completes K.history K.extends family (view seat.new) → Completes K.history K.extends family (view seat.old) }
-        ensures above { ((view seat.old).reach ≤ result) × ((h : Hold K) → (view seat.old).hold ≡ Some h → h.bound ≤ result) }
+        ensures completes { (family : List K) → Completes K.history K.extends family (view seat.new)
+            → Completes K.history K.extends family (view seat.old) }
+        ensures above { ((view seat.old).reach ≤ result)
+            × ((h : Hold K) → (view seat.old).hold ≡ Some h → h.bound ≤ result) }
     {
         let _slot = slot;
         let stamp = stamp_for::<K, T, Brand>(self, &mut seat.token, row);
@@ -72,12 +82,15 @@ impl<K: Kept, T: Stamped + Copy> Board<K, T> {
     pub fn give(&self, seat: &mut Seat<K, T>, slot: u32, value: K)
         requires seat { IsSeatOf self.now seat.old }
         requires slot { slot < modules_of self.now }
-        requires busy { (y : K) × (since : List (ℕ × ℕ)) × IsBusy K.history K.extends slot y since seat.old × K.extends y value × (K.history value ≡ K.history y ++ since) × (unended (K.marks y) ≤ slice_index (view seat.old).owed slot + unended (K.marks value)) }
+        requires busy { (y : K) × (since : List (ℕ × ℕ)) × IsBusy K.history K.extends slot y since seat.old
+            × K.extends y value × (K.history value ≡ K.history y ++ since)
+            × (unended (K.marks y) ≤ slice_index (view seat.old).owed slot + unended (K.marks value)) }
         requires thrifty { debts (marked K.marks (noted (view seat.old) value) value) ≤ 1 }
         ensures seat { IsSeatOf self.now seat.new }
         ensures idle { IsIdle seat.new }
         ensures gave { view seat.new ≡ gave (marked K.marks (noted (view seat.old) value) value) }
-        ensures completes { (family : List K) → Completes K.history K.extends family (view seat.new) → Completes K.history K.extends family (view seat.old) }
+        ensures completes { (family : List K) → Completes K.history K.extends family (view seat.new)
+            → Completes K.history K.extends family (view seat.old) }
     {
         let count = value.entered() as u64;
         let marks = value.marked();

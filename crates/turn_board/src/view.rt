@@ -91,7 +91,8 @@ impl<K: Kept, T: Stamped + Copy> TableRule<Lot<K, T>, LinkedList<SeatView<K, T>>
 
     ghost holds = { IsBoard K.history K.extends K.marks T.same_plan T.stamp };
 
-    ghost first = { λ key. seats_from key.lengths.value.items key.opening.value.items (Some key.pool.value) 0 key.seats };
+    ghost first = { λ key. seats_from key.lengths.value.items key.opening.value.items
+        (Some key.pool.value) 0 key.seats };
 }
 
 /// Which row a draw is for.
