@@ -1,4 +1,4 @@
--- The early form of a script, after its tokens: SELECT * FROM a , b WHERE a . c = b . d
+-- Not for long: the early form of a script, after its tokens: SELECT * FROM a , b WHERE a . c = b . d
 use Rattle.std.specs.Prelude.{ℕ, zero, suc, Bool, true, false, not, ◌&&◌, ◌||◌, ◌==◌, nat_lt, codes, List, [], ◌∷◌, length, drop, Option, Some, None, take_while, position, slice_get, slice_index, if◌then◌else◌}
 use Rattle.std.specs.List.{list_any, prefix_len}
 use Rattle.std.specs.Str.Lossy.{utf8_valid_len}
@@ -37,9 +37,9 @@ token_and more (Some t) = t.0 ∷ more t.1
 
 -- the tokens of a text from the front on, as many as n of them: a word is the longest that fits, and any other byte
 -- stands alone, since no other token of several bytes has a place in the form
-unfoldable pub tokens_of : ℕ → List ℕ → List Token
-tokens_of zero text = []
-tokens_of (suc n) text = token_and (tokens_of n) (first_token (skipped false text))
+unfoldable pub early_tokens : ℕ → List ℕ → List Token
+early_tokens zero text = []
+early_tokens (suc n) text = token_and (early_tokens n) (first_token (skipped false text))
 
 -- the reserved words, which name nothing
 abbrev pub reserved_words : List (List ℕ)
@@ -99,8 +99,8 @@ pub record JoinQuery : Type 0 where
   pub right_column : List ℕ
 
 -- the place of the table of this name
-abbrev pub place_of : List TableWord → List ℕ → Option ℕ
-place_of tables name = position (λ (t : TableWord). is_same_name t.name name) tables
+abbrev pub table_place : List TableWord → List ℕ → Option ℕ
+table_place tables name = position (λ (t : TableWord). is_same_name t.name name) tables
 
 -- the join of tokens in form, where its sources are two different tables
 abbrev pub join_between : Option ℕ → Option ℕ → List Token → Option JoinQuery
@@ -113,11 +113,11 @@ join_between (Some left) (Some right) ts =
 -- the join of a list of tokens, where they are in form
 abbrev pub join_of_tokens : List TableWord → List Token → Option JoinQuery
 join_of_tokens tables ts =
-    if is_join_form ts then join_between (place_of tables (word_of (slice_get ts 3))) (place_of tables (word_of (slice_get ts 5))) ts
+    if is_join_form ts then join_between (table_place tables (word_of (slice_get ts 3))) (table_place tables (word_of (slice_get ts 5))) ts
     else None
 
 -- the join of a script of at most 67,108,864 bytes of UTF-8, where it is in the early form: 15 tokens show whether it is
 unfoldable pub early_script : List TableWord → List ℕ → Option JoinQuery
 early_script tables text =
     if nat_lt 67108864 (length text) || not (utf8_valid_len text == length text) then None
-    else join_of_tokens tables (tokens_of 15 text)
+    else join_of_tokens tables (early_tokens 15 text)

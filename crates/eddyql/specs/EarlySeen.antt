@@ -1,7 +1,7 @@
--- The program's tokens and joins, as the definitions of a script see them.
+-- For proofs, and not for long: the program's tokens and joins, as the definitions of a script see them.
 use Rattle.std.specs.Prelude.{ℕ, List}
 use Rattle.std.specs.Borrow.{Bor}
-use Rattle.eddyql.specs.Script as spec
+use Rattle.eddyql.specs.EarlyScript as spec
 use Rattle.eddyql.specs.declared.script.JoinQuery.{JoinQuery}
 use Rattle.eddyql.specs.declared.script.tokens.Token.{Token}
 use Rattle.eddyql.specs.declared.script.tokens.Token.TheVariants.{Word, Mark}

@@ -1,4 +1,4 @@
--- The early form of a table's file: CSV with a heading of identifiers, and canonical integers below.
+-- Not for long: the early form of a table's file: CSV with a heading of identifiers, and canonical integers below.
 use Rattle.std.specs.Prelude.{ℕ, Bool, true, not, ◌&&◌, ◌||◌, ◌==◌, nat_lt, nat_le, nat_eq, List, [], ◌∷◌, length, map, drop, Option, Some, None, slice_index, if◌then◌else◌}
 use Rattle.std.specs.List.{list_all, list_any, starts_with}
 use Rattle.std.specs.Str.Parse.{signed_digits_value, starts_with_minus}

@@ -1,8 +1,8 @@
--- What the engine and the writer ask of a block.
+-- For proofs, and not for long: what the engine and the writer ask of a block.
 use Rattle.std.specs.Prelude.{◌≡◌, List, [], All}
 use Rattle.sq_value.specs.Relation.{Relation}
 use Rattle.sq_expr.specs.declared.block.Block.{Block}
-use Rattle.eddyql.specs.Join.{IsJoin}
+use Rattle.eddyql.specs.EarlyJoin.{IsJoin}
 use Rattle.eddyql.specs.Writing.{IsOutput}
 
 -- the block is a join of tables without ORDER BY, and its output columns are theirs

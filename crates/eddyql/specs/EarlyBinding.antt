@@ -1,12 +1,12 @@
--- The block of an early script over its tables: SELECT * of both, joined by one equality.
+-- Not for long: the block of an early script over its tables: SELECT * of both, joined by one equality.
 use Rattle.std.specs.Prelude.{ℕ, ◌+◌, true, List, [], ◌∷◌, ◌++◌, Option, Some, None, position}
 use Rattle.sq_value.specs.Name.{is_same_name}
 use Rattle.sq_value.specs.declared.table.Column.{Column}
 use Rattle.sq_expr.specs.declared.block.AliasUse.{AliasUse}
 use Rattle.sq_expr.specs.declared.block.Block.{Block}
 use Rattle.sq_expr.specs.declared.block.OutCol.{OutCol}
-use Rattle.eddyql.specs.Join.{equality}
-use Rattle.eddyql.specs.Script.{JoinQuery}
+use Rattle.eddyql.specs.EarlyJoin.{equality}
+use Rattle.eddyql.specs.EarlyScript.{JoinQuery}
 
 -- the place of the column of this name
 abbrev pub column_named : List Column → List ℕ → Option ℕ

@@ -1,4 +1,4 @@
--- What a reader of a table's file has yet to give, and the table that its rows fill.
+-- For proofs, and not for long: what a reader of a table's file has yet to give, and the table that its rows fill.
 use Rattle.std.specs.Prelude.{◌≡◌, ℕ, ◌+◌, Bool, true, false, ◌&&◌, nat_le, List, [], ◌∷◌, ◌++◌, length, map, Option, Some, None, IsSome, All, if◌then◌else◌}
 use Rattle.std.specs.Borrow.{Bor}
 use Rattle.std.specs.List.{list_all}
@@ -9,7 +9,7 @@ use Rattle.csv.specs.declared.reader.Trim.TheVariants as trim
 use Rattle.sq_value.specs.Relation.{Relation}
 use Rattle.sq_value.specs.declared.table.Column.{Column}
 use Rattle.sq_value.specs.declared.value.ColType.TheVariants.{Integer}
-use Rattle.eddyql.specs.TableText.{is_integer_row, integer_of}
+use Rattle.eddyql.specs.EarlyTable.{is_integer_row, integer_of}
 
 -- what a slice that is read has left
 abbrev pub slice_left : Bor (List ℕ) → Option (List ℕ)
