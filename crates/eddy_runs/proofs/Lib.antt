@@ -14,5 +14,7 @@ pub mod ClosingLemmas
 pub mod FollowLemmas
 pub mod FollowedLemmas
 pub mod FollowedEnd
+pub mod AccountLemmas
+pub mod TupleCounts
 mod WorkedScans
 mod WorkedLookUps

@@ -7,5 +7,6 @@ pub mod Recorded
 pub mod Followed
 pub mod View
 pub mod Answers
+pub mod Accounts
 pub mod Close
 pub mod Shared
