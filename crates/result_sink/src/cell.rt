@@ -24,7 +24,8 @@ pub(crate) fn cell_of<'t>(
     requires column { HasColumn block.now tables.now column }
     ensures value { unwrap_or (option_copied result) Value.Null
         ≡ value_in tables.now (uses_of block.now) (rows_of_combo block.now combo.now) column }
-    ensures kind { IfSome result (λ value. IfSome (kind_in tables.now (uses_of block.now) column) (λ kind. HasKind kind value.now)) }
+    ensures kind { IfSome result (λ value. IfSome (kind_in tables.now (uses_of block.now) column)
+        (λ kind. HasKind kind value.now)) }
 {
     let alias = column.alias as usize;
     let table = tables.get(block.aliases.as_slice()[alias].table);

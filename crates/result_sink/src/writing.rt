@@ -33,9 +33,11 @@ fn put_line<O: Sink>(line: &[u8], out: &mut O) -> Result<(), WriteFault>
 /// One put of the heading.
 fn put_heading<O: Sink>(line: &mut Vec<u8>, block: &Block, out: &mut O) -> Result<(), WriteFault>
     ensures counts { NeverFalls (O.faults out.old) (O.faults out.new) }
-    ensures ok { OnOk result (Adds (O.written out.old) (O.written out.new) (row_text default_writer (heading_fields block.now))) }
+    ensures ok { OnOk result (Adds (O.written out.old) (O.written out.new)
+        (row_text default_writer (heading_fields block.now))) }
     ensures failed { result ≡ Err WriteFault.Failed → Rose (O.faults out.old) (O.faults out.new) }
-    ensures front { OnErr result (AddsFront (O.written out.old) (O.written out.new) (row_text default_writer (heading_fields block.now))) }
+    ensures front { OnErr result (AddsFront (O.written out.old) (O.written out.new)
+        (row_text default_writer (heading_fields block.now))) }
     ensures kept { OnOk result (O.faults out.new ≡ O.faults out.old) }
 {
     if heading_line(line, block).is_err() {
@@ -54,9 +56,11 @@ fn put_record<O: Sink>(
 ) -> Result<(), WriteFault>
     requires { IsShown block.now tables.now }
     ensures counts { NeverFalls (O.faults out.old) (O.faults out.new) }
-    ensures ok { OnOk result (Adds (O.written out.old) (O.written out.new) (record_text block.now tables.now combo.now)) }
+    ensures ok { OnOk result (Adds (O.written out.old) (O.written out.new)
+        (record_text block.now tables.now combo.now)) }
     ensures failed { result ≡ Err WriteFault.Failed → Rose (O.faults out.old) (O.faults out.new) }
-    ensures front { OnErr result (AddsFront (O.written out.old) (O.written out.new) (record_text block.now tables.now combo.now)) }
+    ensures front { OnErr result (AddsFront (O.written out.old) (O.written out.new)
+        (record_text block.now tables.now combo.now)) }
     ensures kept { OnOk result (O.faults out.new ≡ O.faults out.old) }
 {
     if record_line(line, block, tables, combo).is_err() {
@@ -75,9 +79,11 @@ fn put_records<O: Sink>(
 ) -> Result<(), WriteFault>
     requires { IsShown block.now tables.now }
     ensures counts { NeverFalls (O.faults out.old) (O.faults out.new) }
-    ensures ok { OnOk result (Adds (O.written out.old) (O.written out.new) (flat_map (record_text block.now tables.now) combos.now)) }
+    ensures ok { OnOk result (Adds (O.written out.old) (O.written out.new)
+        (flat_map (record_text block.now tables.now) combos.now)) }
     ensures failed { result ≡ Err WriteFault.Failed → Rose (O.faults out.old) (O.faults out.new) }
-    ensures front { OnErr result (AddsFront (O.written out.old) (O.written out.new) (flat_map (record_text block.now tables.now) combos.now)) }
+    ensures front { OnErr result (AddsFront (O.written out.old) (O.written out.new)
+        (flat_map (record_text block.now tables.now) combos.now)) }
     ensures kept { OnOk result (O.faults out.new ≡ O.faults out.old) }
 {
     for combo in combos {
@@ -104,9 +110,11 @@ pub fn write_answer<O: Sink>(
 ) -> Result<(), WriteFault>
     requires { IsShown block.now tables.now }
     ensures counts { NeverFalls (O.faults out.old) (O.faults out.new) }
-    ensures ok { OnOk result (Adds (O.written out.old) (O.written out.new) (answer_text block.now tables.now (map (rows_of_combo block.now) combos.now))) }
+    ensures ok { OnOk result (Adds (O.written out.old) (O.written out.new)
+        (answer_text block.now tables.now (map (rows_of_combo block.now) combos.now))) }
     ensures failed { result ≡ Err WriteFault.Failed → Rose (O.faults out.old) (O.faults out.new) }
-    ensures front { OnErr result (AddsFront (O.written out.old) (O.written out.new) (answer_text block.now tables.now (map (rows_of_combo block.now) combos.now))) }
+    ensures front { OnErr result (AddsFront (O.written out.old) (O.written out.new)
+        (answer_text block.now tables.now (map (rows_of_combo block.now) combos.now))) }
     ensures kept { OnOk result (O.faults out.new ≡ O.faults out.old) }
 {
     let mut line = Vec::new(alloc);
