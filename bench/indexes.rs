@@ -4,7 +4,7 @@
 //! of a question, as run.sh prints them for the indexes.
 
 use std::collections::{BTreeMap, HashMap};
-use std::time::Instant;
+use std::ffi::c_long;
 
 fn next(state: u64) -> u64 {
     state.wrapping_mul(6364136223846793005).wrapping_add(1442695040888963407)
@@ -28,18 +28,27 @@ fn report(name: &str, workload: &str, n: usize, made: f64, asked: f64, sum: u64)
     println!("{name:>10} {workload:>8} {n:>8}: add {made:7.1} ns, ask {asked:7.1} ns, sum {sum}");
 }
 
-fn nanoseconds(start: Instant, n: usize) -> f64 {
-    start.elapsed().as_nanos() as f64 / n as f64
+extern "C" {
+    fn clock() -> c_long;
+}
+
+// Microseconds of the processor time of this program, by C's clock.
+fn processor_time() -> c_long {
+    unsafe { clock() }
+}
+
+fn nanoseconds(start: c_long, n: usize) -> f64 {
+    (processor_time() - start) as f64 * 1000.0 / n as f64
 }
 
 fn hash_map<K: std::hash::Hash + Eq + Clone>(workload: &str, keys: &[K]) {
-    let start = Instant::now();
+    let start = processor_time();
     let mut map: HashMap<K, Vec<u32>> = HashMap::new();
     for (place, key) in keys.iter().enumerate() {
         map.entry(key.clone()).or_default().push(place as u32);
     }
     let made = nanoseconds(start, keys.len());
-    let start = Instant::now();
+    let start = processor_time();
     let mut sum = 0u64;
     for key in keys {
         if let Some(places) = map.get(key) {
@@ -50,13 +59,13 @@ fn hash_map<K: std::hash::Hash + Eq + Clone>(workload: &str, keys: &[K]) {
 }
 
 fn btree_map<K: Ord + Clone>(workload: &str, keys: &[K]) {
-    let start = Instant::now();
+    let start = processor_time();
     let mut map: BTreeMap<K, Vec<u32>> = BTreeMap::new();
     for (place, key) in keys.iter().enumerate() {
         map.entry(key.clone()).or_default().push(place as u32);
     }
     let made = nanoseconds(start, keys.len());
-    let start = Instant::now();
+    let start = processor_time();
     let mut sum = 0u64;
     for key in keys {
         for places in map.range(key.clone()..).take(1) {

@@ -9,7 +9,12 @@ pub mod PermutationLemmas
 pub mod AnswerLemmas
 pub mod CloseLemmas
 pub mod SharedLemmas
-mod WorkedScans
-mod WorkedLookUps
 pub mod ToldLemmas
 pub mod ClosingLemmas
+pub mod FollowLemmas
+pub mod FollowedLemmas
+pub mod FollowedEnd
+pub mod AccountLemmas
+pub mod TupleCounts
+mod WorkedScans
+mod WorkedLookUps

@@ -4,7 +4,9 @@ pub mod Reached
 pub mod Complete
 pub mod Told
 pub mod Recorded
+pub mod Followed
 pub mod View
 pub mod Answers
+pub mod Accounts
 pub mod Close
 pub mod Shared

@@ -18,6 +18,7 @@ ghost use Rattle.eddy_runs.specs.Reached.{IsReached};
 ghost use Rattle.eddy_runs.specs.Complete.{IsBagOf};
 ghost use Rattle.eddy_runs.specs.Told.{Told, IsToldRun, most_hops};
 ghost use Rattle.eddy_runs.specs.Recorded.{IsRecorded, marks_of};
+ghost use Rattle.eddy_runs.specs.Followed.{IsFollowed};
 ghost use Rattle.eddy_meaning.specs.Keys.{Mark};
 ghost use Rattle.eddy_runs.specs.Close.{Seat, PoolMove, HaveClosed, HaveEnded, HaveAnswered, results_of, most_of};
 ghost use Rattle.eddy_runs.specs.Shared.{block_log, place_in};
@@ -30,7 +31,7 @@ ghost use Rattle.eddy_runs.specs.Shared.{block_log, place_in};
 /// hops, each row that came is kept, and each entry is chased. Where a run has ended its results
 /// are the bag in another order, look-ups included (`end`). Where its routings were told to a
 /// policy, the results, the log, the asked keys and the most hops are an answer as it must be
-/// (`recorded`).
+/// (`recorded`), and what was told accounts for each arrival, entry, key and result (`followed`).
 pub fn run_laws()
     ensures start { (gives : ℕ → Value → Value → Truth) (block : Block) (tables : List Relation)
         → IsReached gives block tables (empty_state block) }
@@ -51,6 +52,10 @@ pub fn run_laws()
         → (alias : ℕ) (u : AliasUse) → slice_get block.aliases alias ≡ Some u → u.access.scan ≡ true
         → (tolds : List Told) (s : State) → IsToldRun gives block tables tolds s → HasEnded block tables s
         → IsRecorded gives block tables s.results s.log (marks_of s.asked) (most_hops tolds) }
+    ensures followed { (gives : ℕ → Value → Value → Truth) (kinds : ℕ → Option Kinds) (block : Block)
+        → (tables : List Relation) → IsFit kinds tables block → (tolds : List Told) (s : State)
+        → IsToldRun gives block tables tolds s → HasEnded block tables s
+        → IsFollowed gives block tables s.results s.log (marks_of s.asked) (most_hops tolds) tolds }
 {}
 
 /// The laws of the workers' close. It does nothing.

@@ -6,9 +6,9 @@ use Rattle.sq_expr.specs.declared.block.OutCol.{OutCol}
 use Rattle.std.specs.Prelude.{Some, None, slice_get}
 use Rattle.sq_value.specs.Relation.{Relation}
 use Rattle.sq_expr.specs.declared.block.Block.{Block}
-use Rattle.eddyql.specs.Binding.{columns_of, column_named, block_of, block_with}
+use Rattle.eddyql.specs.EarlyBinding.{columns_of, column_named, block_of, block_with}
 use Rattle.eddyql.specs.Outcome.{columns_at}
-use Rattle.eddyql.specs.Script.{JoinQuery}
+use Rattle.eddyql.specs.EarlyScript.{JoinQuery}
 
 -- the output column of a column
 abbrev pub output_column : ℕ → ℕ → Column → OutCol

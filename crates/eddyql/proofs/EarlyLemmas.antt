@@ -5,8 +5,8 @@ use Rattle.std.proofs.lemmas.Bool.{and_parts, eqb-true, le-ltb, lt-ltb, or_right
 use Rattle.csv.specs.Reading.{ChangesHeaders, default_config, is_bom, reader_state, records, source_of, strip_bom}
 use Rattle.csv.specs.declared.parser.State.TheVariants as st
 use Rattle.csv.specs.declared.reader.Reader.{Reader}
-use Rattle.eddyql.specs.Reading.{records_left, records_on, slice_left}
-use Rattle.eddyql.specs.TableText.{begins_with_mark, early_table, table_of_records}
+use Rattle.eddyql.specs.EarlyReading.{records_left, records_on, slice_left}
+use Rattle.eddyql.specs.EarlyTable.{begins_with_mark, early_table, table_of_records}
 
 -- bytes that don't begin with the mark stay as they are
 strip_bom-keeps : (bytes : List ℕ) → begins_with_mark bytes ≡ false → strip_bom bytes ≡ bytes

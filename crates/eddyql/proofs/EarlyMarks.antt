@@ -9,7 +9,7 @@ use Rattle.sq_parse.specs.declared.mark.Mark.{Mark}
 use Rattle.sq_parse.specs.declared.mark.Mark.TheVariants as k
 use Rattle.sq_parse.specs.Form.{Text}
 use Rattle.sq_parse.specs.Mark.{same_word, look_up, words, word_mark, same, is, is_name}
-use Rattle.eddyql.specs.Script.{reserved_words, is_reserved}
+use Rattle.eddyql.specs.EarlyScript.{reserved_words, is_reserved}
 
 -- what a table of words says of a word in lower case
 abbrev look_up_lower : List (Text × Mark) → Text → Mark

@@ -20,7 +20,7 @@ use Rattle.sq_parse.specs.Grammar as g
 use Rattle.sq_parse.specs.Grammar.{shipped}
 use Rattle.sq_parse.proofs.PieceLemmas.{pieces_none}
 use Rattle.eddyql.specs.Words.{begins_identifier, follows_in_identifier}
-use Rattle.eddyql.specs.Script.{Token, Word, Mark as Single, skipped, first_token, token_and, tokens_of, is_reserved, is_word, is_mark, is_name, is_join_form, join_of_tokens, JoinQuery, early_script}
+use Rattle.eddyql.specs.EarlyScript.{Token, Word, Mark as Single, skipped, first_token, token_and, early_tokens, is_reserved, is_word, is_mark, is_name, is_join_form, join_of_tokens, JoinQuery, early_script}
 use Rattle.sq_parse.specs.Fault.{ReadsAs}
 use Rattle.eddyql.specs.ScriptText.{EarlyParses}
 use Rattle.eddyql.proofs.EarlyMarks.{is-Select, is-From, is-Where, is_name-word}
@@ -119,19 +119,19 @@ Passes (x ∷ xs) ts = (t : Tok) × (rest : List Tok) × (ts ≡ t ∷ rest) × 
 
 -- where as many tokens as parts are read, and each is its part, so it is to the grammar
 abbrev Reads : ℕ → Type 0
-Reads n = (xs : List Part) (at : ℕ) (text : Text) → length xs < n → length (tokens_of n text) ≡ length xs → Fits 0 xs (tokens_of n text)
+Reads n = (xs : List Part) (at : ℕ) (text : Text) → length xs < n → length (early_tokens n text) ≡ length xs → Fits 0 xs (early_tokens n text)
     → Passes xs (map tok_of (pieces at text))
 
 -- the token at the front of a text that isn't empty
 abbrev token_by : Bool → ℕ → Text → Option (Token × List ℕ)
 token_by begins b z = cond begins (Some (Word (b ∷ take_while follows_in_identifier z), drop (prefix_len follows_in_identifier z) z)) (Some (Single b, z))
 
-some_token : (n b : ℕ) (z : Text) (begins : Bool) → length (token_and (tokens_of n) (token_by begins b z)) ≡ 0 → ⊥
+some_token : (n b : ℕ) (z : Text) (begins : Bool) → length (token_and (early_tokens n) (token_by begins b z)) ≡ 0 → ⊥
 some_token n b z true e = omega arith
 some_token n b z false e = omega arith
 
 one_more : (n : ℕ) → Reads n → (x : Part) (xs : List Part) (at b : ℕ) (z : Text) (begins : Bool) → begins_identifier b ≡ begins → suc (length xs) < suc n
-    → length (token_and (tokens_of n) (token_by begins b z)) ≡ suc (length xs) → Fits 0 (x ∷ xs) (token_and (tokens_of n) (token_by begins b z))
+    → length (token_and (early_tokens n) (token_by begins b z)) ≡ suc (length xs) → Fits 0 (x ∷ xs) (token_and (early_tokens n) (token_by begins b z))
     → Passes (x ∷ xs) (map tok_of (pieces at (b ∷ z)))
 one_more n more x xs at b z true e h long f =
     let rest = drop (prefix_len follows_in_identifier z) z in
@@ -140,7 +140,7 @@ one_more n more x xs at b z true e h long f =
       map tok_of (pieces p.0 rest),
       ap (map tok_of) p.1,
       passes-word x (b ∷ take_while follows_in_identifier z) f.0,
-      more xs p.0 rest (omega arith) (omega arith) (Fits-behind 0 xs (Word (b ∷ take_while follows_in_identifier z)) (tokens_of n rest) f.1),
+      more xs p.0 rest (omega arith) (omega arith) (Fits-behind 0 xs (Word (b ∷ take_while follows_in_identifier z)) (early_tokens n rest) f.1),
     )
 one_more n more x xs at b z false e h long f =
     let s = passes-mark x b z f.0 in (
@@ -148,18 +148,18 @@ one_more n more x xs at b z false e h long f =
       map tok_of (pieces (at + 1) z),
       ap (map tok_of) (pieces-symbol at b z s.0),
       s.1,
-      more xs (at + 1) z (omega arith) (omega arith) (Fits-behind 0 xs (Single b) (tokens_of n z) f.1),
+      more xs (at + 1) z (omega arith) (omega arith) (Fits-behind 0 xs (Single b) (early_tokens n z) f.1),
     )
 
-step : (n : ℕ) → Reads n → (xs : List Part) (at : ℕ) (z : Text) → length xs < suc n → length (token_and (tokens_of n) (first_token z)) ≡ length xs
-    → Fits 0 xs (token_and (tokens_of n) (first_token z)) → Passes xs (map tok_of (pieces at z))
+step : (n : ℕ) → Reads n → (xs : List Part) (at : ℕ) (z : Text) → length xs < suc n → length (token_and (early_tokens n) (first_token z)) ≡ length xs
+    → Fits 0 xs (token_and (early_tokens n) (first_token z)) → Passes xs (map tok_of (pieces at z))
 step n more [] at [] h long f = ap (map tok_of) (pieces_none at [] refl)
 step n more [] at (b ∷ z) h long f = absurd (some_token n b z (begins_identifier b) long)
 step n more (x ∷ xs) at [] h long f = absurd (omega arith)
 step n more (x ∷ xs) at (b ∷ z) h long f = one_more n more x xs at b z (begins_identifier b) refl h long f
 
 reads : (n : ℕ) → Reads n
-unfolding tokens_of
+unfolding early_tokens
 reads zero xs at text h long f = absurd (omega arith)
 reads (suc n) xs at text h long f =
     let s = pieces_skipped at text in
@@ -256,10 +256,10 @@ in_form : (b : Bool) (o : Option JoinQuery) (query : JoinQuery) → cond b o Non
 in_form true o query e = refl
 in_form false o query e = absurd cc
 
-Spells-text : (text : Text) → is_join_form (tokens_of 15 text) ≡ true → Spells (toks 0 text)
+Spells-text : (text : Text) → is_join_form (early_tokens 15 text) ≡ true → Spells (toks 0 text)
 unfolding toks
 Spells-text text e =
-    let f = Fits-from_form (tokens_of 15 text) e in
+    let f = Fits-from_form (early_tokens 15 text) e in
     spells (map tok_of (pieces 0 text)) (reads 15 form_parts 0 text (omega arith) f.0 f.1)
 
 pub early_parses : EarlyParses
@@ -267,9 +267,9 @@ unfolding early_script
 early_parses tables text query e = by (ltb 67108864 (length text) || not (eqb (utf8_valid_len text) (length text))) refl e
   where
     by : (b : Bool) → (ltb 67108864 (length text) || not (eqb (utf8_valid_len text) (length text))) ≡ b
-        → cond b None (join_of_tokens tables (tokens_of 15 text)) ≡ Some query → (script : Script) × ReadsAs text (Ok script)
+        → cond b None (join_of_tokens tables (early_tokens 15 text)) ≡ Some query → (script : Script) × ReadsAs text (Ok script)
     by true f e = absurd cc
     by false f e =
         let valid = is_utf8-whole text (eqb-true (utf8_valid_len text) (length text) (is_text _ _ f)) in
-        let s = Spells-text text (in_form (is_join_form (tokens_of 15 text)) _ query e) in
+        let s = Spells-text text (in_form (is_join_form (early_tokens 15 text)) _ query e) in
         (s.0, (IsUtf8-from_is_utf8 text valid, (s.1, s.2)))

@@ -11,7 +11,7 @@ use Rattle.sq_parse.specs.Form.{Text, front}
 use Rattle.sq_parse.specs.Piece.{Piece, piece_then, pieces_from, pieces}
 use Rattle.sq_parse.proofs.PieceLemmas.{pieces_token}
 use Rattle.eddyql.specs.Words.{begins_identifier, follows_in_identifier}
-use Rattle.eddyql.specs.Script.{is_blank, skipped}
+use Rattle.eddyql.specs.EarlyScript.{is_blank, skipped}
 
 -- whether a byte stands in a line, and in a word
 abbrev in_line : ℕ → Bool

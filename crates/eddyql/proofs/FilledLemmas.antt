@@ -7,8 +7,8 @@ use Rattle.std.proofs.lemmas.List.{length-map, length_push}
 use Rattle.sq_value.specs.Relation.{Relation, IsRow}
 use Rattle.sq_value.specs.declared.table.Column.{Column}
 use Rattle.sq_value.specs.declared.value.ColType.TheVariants.{Integer}
-use Rattle.eddyql.specs.Reading.{AllIntegers, GivesNext, filled}
-use Rattle.eddyql.specs.TableText.{column_of, integer_of, is_heading, is_integer_row, table_of_records}
+use Rattle.eddyql.specs.EarlyReading.{AllIntegers, GivesNext, filled}
+use Rattle.eddyql.specs.EarlyTable.{column_of, integer_of, is_heading, is_integer_row, table_of_records}
 
 -- values of integers are a row of columns of integers
 IsRow-suc : (c : Column) (cs : List Column) (f : List ℕ) (fs : List (List ℕ)) → c.kind ≡ Integer → IsRow cs (map integer_of fs)

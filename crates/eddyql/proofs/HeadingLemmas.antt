@@ -12,8 +12,8 @@ use Rattle.sq_value.specs.Name.{IsSameName, is_same_name, lower}
 use Rattle.sq_value.specs.Relation.{IsHeading, NamesDiffer}
 use Rattle.sq_value.specs.declared.table.Column.{Column}
 use Rattle.sq_value.specs.declared.value.ColType.TheVariants.{Integer}
-use Rattle.eddyql.specs.Reading.{AllIntegers}
-use Rattle.eddyql.specs.TableText.{all_differ, column_of, is_heading}
+use Rattle.eddyql.specs.EarlyReading.{AllIntegers}
+use Rattle.eddyql.specs.EarlyTable.{all_differ, column_of, is_heading}
 use Rattle.eddyql.specs.Words.{begins_identifier, follows_in_identifier, is_identifier}
 
 -- a letter, `_` and a digit are ASCII

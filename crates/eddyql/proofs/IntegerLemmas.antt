@@ -12,7 +12,7 @@ use Rattle.sq_value.specs.declared.integer.IntFault.{IntFault}
 use Rattle.sq_value.specs.declared.integer.IntFault.TheVariants.{OutOfRange}
 use Rattle.sq_value.specs.declared.value.Value.TheVariants.{Int}
 use Rattle.sq_value.proofs.NumeralLemmas.{fits_from_i64}
-use Rattle.eddyql.specs.TableText.{integer_of, is_canonical, is_canonical_numeral, without_minus}
+use Rattle.eddyql.specs.EarlyTable.{integer_of, is_canonical, is_canonical_numeral, without_minus}
 
 -- a digit's code
 digit-range : (b : ℕ) → is_ascii_digit b ≡ true → (48 ≤ b) × (b ≤ 57)

@@ -16,7 +16,7 @@ pub mod ExitLemmas
 pub mod JoinLemmas
 pub mod ProbeLemmas
 pub mod LogLemmas
-pub mod TurnLemmas
+pub mod RoundLemmas
 pub mod StepLemmas
 pub mod OrderLemmas
 pub mod RunLemmas

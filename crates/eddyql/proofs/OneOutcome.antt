@@ -8,7 +8,7 @@ use Rattle.sq_parse.specs.declared.tree.Script.{Script}
 use Rattle.sq_parse.specs.Fault.{ReadsAs}
 use Rattle.sq_parse.proofs.OneReading.{one_reading, same_reading}
 use Rattle.eddyql.specs.Words.{Command, command}
-use Rattle.eddyql.specs.Script.{JoinQuery}
+use Rattle.eddyql.specs.EarlyScript.{JoinQuery}
 use Rattle.eddyql.specs.ScriptText.{ScriptReadsAs}
 use Rattle.eddyql.specs.Outcome.{◌>>=◌, or_refuse, join_read, plan_of, outcome, text_of, IsOutcome, OneOutcome}
 use Rattle.eddyql.specs.declared.plan.Plan.{Plan}

@@ -8,9 +8,9 @@ use Rattle.std.proofs.lemmas.Bool.{lt-ltb, cases_lt}
 use Rattle.outside.specs.Files.{File, lookup, Gives, Lacks}
 use Rattle.sq_value.specs.Relation.{Relation}
 use Rattle.eddyql.specs.Words.{TableWord, table_of_word}
-use Rattle.eddyql.specs.TableText.{early_table, table_of_records, column_of, integer_of}
+use Rattle.eddyql.specs.EarlyTable.{early_table, table_of_records, column_of, integer_of}
 use Rattle.eddyql.specs.Outcome.{◌>>=◌, or_refuse, table_read, tables_read, ReachedTable}
-use Rattle.eddyql.specs.Loaded.{LoadRefused, IsIntegerTable}
+use Rattle.eddyql.specs.EarlyLoaded.{LoadRefused, IsIntegerTable}
 use Rattle.sq_value.specs.declared.table.Column.{Column}
 use Rattle.sq_value.specs.declared.value.ColType.TheVariants.{Integer}
 use Rattle.eddyql.specs.declared.status.TableFault.TheVariants.{NoHeading}

@@ -14,14 +14,14 @@ use Rattle.sq_expr.specs.declared.block.Block.{Block}
 use Rattle.sq_expr.specs.declared.block.OutCol.{OutCol}
 use Rattle.bag_meaning.specs.Bag.{uses_of}
 use Rattle.eddyql.specs.Words.{Command}
-use Rattle.eddyql.specs.Script.{JoinQuery}
+use Rattle.eddyql.specs.EarlyScript.{JoinQuery}
 use Rattle.sq_parse.specs.declared.tree.Script.{Script}
 use Rattle.eddyql.specs.Writing.{IsOutput}
-use Rattle.eddyql.specs.Runnable.{IsRunnable}
-use Rattle.eddyql.specs.Binding.{columns_of, column_named, block_of, block_with, block_between}
+use Rattle.eddyql.specs.EarlyRunnable.{IsRunnable}
+use Rattle.eddyql.specs.EarlyBinding.{columns_of, column_named, block_of, block_with, block_between}
 use Rattle.eddyql.specs.Outcome.{◌>>=◌, or_refuse, join_read, query_read, tables_read, columns_at, block_bound, plan_of, Reached, ReachedTable}
 use Rattle.eddyql.specs.Refusal.{MayRefuse, never}
-use Rattle.eddyql.specs.Loaded.{LoadRefused, IsIntegerTable}
+use Rattle.eddyql.specs.EarlyLoaded.{LoadRefused, IsIntegerTable}
 use Rattle.eddyql.specs.declared.plan.Plan.{Plan}
 use Rattle.eddyql.specs.declared.status.Status.{Status}
 use Rattle.eddyql.specs.declared.status.Status.TheVariants as status

@@ -8,7 +8,7 @@ use Rattle.csv.specs.declared.parser.Config.{Config}
 use Rattle.csv.specs.declared.parser.State.{State}
 use Rattle.csv.specs.declared.parser.State.TheVariants as st
 use Rattle.csv.specs.declared.reader.Reader.{Reader}
-use Rattle.eddyql.specs.Reading.{GivesNext, IsPlain, records_left, records_on, slice_left}
+use Rattle.eddyql.specs.EarlyReading.{GivesNext, IsPlain, records_left, records_on, slice_left}
 
 -- a read takes bytes, or else ends the text
 abbrev pub Takes : List ℕ → Read → Type 0

@@ -16,7 +16,7 @@ use Rattle.bag_meaning.proofs.ProductRange.{bag-in_range}
 use Rattle.eddyql.specs.Words.{Command, command, command_of, table_of_word}
 use Rattle.sq_parse.specs.Fault.{IsFault, ReadsAs}
 use Rattle.eddyql.specs.ScriptText.{HasScript, ScriptReadsAs}
-use Rattle.eddyql.specs.Join.{IsJoin, no_meaning}
+use Rattle.eddyql.specs.EarlyJoin.{IsJoin, no_meaning}
 use Rattle.eddyql.specs.Writing.{HasRows, rows_of_combo}
 use Rattle.eddyql.specs.Outcome.{◌>>=◌, plan_of, outcome, text_of, Reached, ReachedBy, IsOutcome}
 use Rattle.eddyql.specs.declared.status.FileOf.{FileOf}

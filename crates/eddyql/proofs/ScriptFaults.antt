@@ -7,12 +7,12 @@ use Rattle.sq_parse.specs.declared.parser.ParseFault.TheVariants.{Syntax}
 use Rattle.sq_parse.specs.declared.parser.ParseFault.TheVariants as parser
 use Rattle.sq_parse.specs.declared.tree.Script.{Script}
 use Rattle.eddyql.specs.Words.{Command, TableWord}
-use Rattle.eddyql.specs.Script.{JoinQuery, early_script}
+use Rattle.eddyql.specs.EarlyScript.{JoinQuery, early_script}
 use Rattle.sq_parse.specs.Fault.{IsFault, ReadsAs}
 use Rattle.sq_parse.proofs.OneReading.{one_reading, same_reading}
 use Rattle.eddyql.specs.ScriptText.{HasScript, RefusesScript}
-use Rattle.eddyql.specs.TableText.{early_table}
-use Rattle.eddyql.specs.Binding.{block_of}
+use Rattle.eddyql.specs.EarlyTable.{early_table}
+use Rattle.eddyql.specs.EarlyBinding.{block_of}
 use Rattle.eddyql.specs.Outcome.{◌>>=◌, or_refuse, join_read, table_read, tables_read, columns_at, block_bound, plan_of, outcome, text_of, IsOutcome}
 use Rattle.eddyql.specs.Refusal.{IsEarly}
 use Rattle.eddyql.specs.Run.{MayEnd, IsLate}

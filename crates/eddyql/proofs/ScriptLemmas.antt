@@ -13,7 +13,7 @@ use Rattle.std.proofs.lemmas.List.Quantifiers.{position-Some}
 use Rattle.std.proofs.lemmas.List.Sums.{prefix_len_passes}
 use Rattle.sq_value.specs.Name.{is_same_name}
 use Rattle.eddyql.specs.Words.{TableWord, table_of_word, begins_identifier, follows_in_identifier}
-use Rattle.eddyql.specs.Script.{Token, is_blank, skipped, first_token, token_and, tokens_of, is_word, is_mark, is_name, word_of, is_join_form, place_of, join_between, join_of_tokens, JoinQuery, early_script}
+use Rattle.eddyql.specs.EarlyScript.{Token, is_blank, skipped, first_token, token_and, early_tokens, is_word, is_mark, is_name, word_of, is_join_form, table_place, join_between, join_of_tokens, JoinQuery, early_script}
 use Rattle.eddyql.proofs.WordsLemmas.{from_place}
 
 -- a byte of a word is ASCII
@@ -92,33 +92,33 @@ skipped-comment (x ∷ xs) n h e f g =
     ∙ ap (λ b. cond b (skipped true xs) (x ∷ xs)) f)
 
 -- the tokens of a text, token by token
-pub tokens_of-more : (n k : ℕ) (text behind : List ℕ) (t : Token) → k < n → first_token (skipped false text) ≡ Some (t, behind)
-    → tokens_of (n - k) text ≡ t ∷ tokens_of (n - (k + 1)) behind
-unfolding tokens_of
-tokens_of-more n k text behind t h e =
+pub early_tokens-more : (n k : ℕ) (text behind : List ℕ) (t : Token) → k < n → first_token (skipped false text) ≡ Some (t, behind)
+    → early_tokens (n - k) text ≡ t ∷ early_tokens (n - (k + 1)) behind
+unfolding early_tokens
+early_tokens-more n k text behind t h e =
     let next : n - k ≡ suc (n - (k + 1)) = omega arith in
-    ap (λ (m : ℕ). tokens_of m text) next ∙ ap (token_and (tokens_of (n - (k + 1)))) e
+    ap (λ (m : ℕ). early_tokens m text) next ∙ ap (token_and (early_tokens (n - (k + 1)))) e
 
-pub tokens_of-none : (n : ℕ) (text : List ℕ) → first_token (skipped false text) ≡ None → tokens_of n text ≡ []
-unfolding tokens_of
-tokens_of-none zero text e = refl
-tokens_of-none (suc n) text e = ap (token_and (tokens_of n)) e
+pub early_tokens-none : (n : ℕ) (text : List ℕ) → first_token (skipped false text) ≡ None → early_tokens n text ≡ []
+unfolding early_tokens
+early_tokens-none zero text e = refl
+early_tokens-none (suc n) text e = ap (token_and (early_tokens n)) e
 
-pub tokens_of-zero : (n k : ℕ) (text : List ℕ) → n ≤ k → tokens_of (n - k) text ≡ []
-unfolding tokens_of
-tokens_of-zero n k text h =
+pub early_tokens-zero : (n k : ℕ) (text : List ℕ) → n ≤ k → early_tokens (n - k) text ≡ []
+unfolding early_tokens
+early_tokens-zero n k text h =
     let none : n - k ≡ 0 = omega arith in
-    ap (λ (m : ℕ). tokens_of m text) none
+    ap (λ (m : ℕ). early_tokens m text) none
 
 -- what stands of the tokens once one more is read
 pub tokens-push : {T : Type 0} (seen : T → Token) (before after : List T) (token : T) (n k : ℕ) (text behind : List ℕ) (all : List Token)
     → after ≡ before ++ (token ∷ []) → k < n → first_token (skipped false text) ≡ Some (seen token, behind)
-    → map seen before ++ tokens_of (n - k) text ≡ all → map seen after ++ tokens_of (n - (k + 1)) behind ≡ all
+    → map seen before ++ early_tokens (n - k) text ≡ all → map seen after ++ early_tokens (n - (k + 1)) behind ≡ all
 tokens-push seen before after token n k text behind all e h f g =
-    ap (λ (ts : List _). map seen ts ++ tokens_of (n - (k + 1)) behind) e
-    ∙ ap (λ (ts : List Token). ts ++ tokens_of (n - (k + 1)) behind) (map-append seen before (token ∷ []))
-    ∙ append_assoc (map seen before) (seen token ∷ []) (tokens_of (n - (k + 1)) behind)
-    ∙ ap (λ (ts : List Token). map seen before ++ ts) (sym (tokens_of-more n k text behind (seen token) h f))
+    ap (λ (ts : List _). map seen ts ++ early_tokens (n - (k + 1)) behind) e
+    ∙ ap (λ (ts : List Token). ts ++ early_tokens (n - (k + 1)) behind) (map-append seen before (token ∷ []))
+    ∙ append_assoc (map seen before) (seen token ∷ []) (early_tokens (n - (k + 1)) behind)
+    ∙ ap (λ (ts : List Token). map seen before ++ ts) (sym (early_tokens-more n k text behind (seen token) h f))
     ∙ g
 
 -- and once none is left to read
@@ -136,9 +136,9 @@ position-map p f xs =
     ap (λ (n : ℕ). cond (ltb (position_or_len p (map f xs)) n) (Some (position_or_len p (map f xs))) None) long
     ∙ ap (λ (k : ℕ). cond (ltb k (length xs)) (Some k) None) (position_or_len-map p f xs)
 
-pub place_of-words : {X : Type 0} (bytes : X → List ℕ) (ws : List X) (name : List ℕ)
-    → place_of (map table_of_word (map bytes ws)) name ≡ position (λ w. is_same_name (table_of_word (bytes w)).name name) ws
-place_of-words bytes ws name =
+pub table_place-words : {X : Type 0} (bytes : X → List ℕ) (ws : List X) (name : List ℕ)
+    → table_place (map table_of_word (map bytes ws)) name ≡ position (λ w. is_same_name (table_of_word (bytes w)).name name) ws
+table_place-words bytes ws name =
     position-map (λ (t : TableWord). is_same_name t.name name) table_of_word (map bytes ws)
     ∙ position-map (λ w. is_same_name (table_of_word w).name name) bytes ws
 
@@ -212,23 +212,23 @@ is_ok-utf8 bytes (Err e) P n h =
     apart same short all = omega arith
 
 -- the join of tokens in form, by the places of their sources
-pub join_of_tokens-left : (tables : List TableWord) (ts : List Token) → is_join_form ts ≡ true → place_of tables (word_of (slice_get ts 3)) ≡ None
+pub join_of_tokens-left : (tables : List TableWord) (ts : List Token) → is_join_form ts ≡ true → table_place tables (word_of (slice_get ts 3)) ≡ None
     → None ≡ join_of_tokens tables ts
 join_of_tokens-left tables ts e f =
-    sym (ap (λ b. cond b (join_between (place_of tables (word_of (slice_get ts 3))) (place_of tables (word_of (slice_get ts 5))) ts) None) e
-    ∙ ap (λ o. join_between o (place_of tables (word_of (slice_get ts 5))) ts) f)
+    sym (ap (λ b. cond b (join_between (table_place tables (word_of (slice_get ts 3))) (table_place tables (word_of (slice_get ts 5))) ts) None) e
+    ∙ ap (λ o. join_between o (table_place tables (word_of (slice_get ts 5))) ts) f)
 
-pub join_of_tokens-both : (tables : List TableWord) (ts : List Token) (left : ℕ) (right : Option ℕ) → is_join_form ts ≡ true → place_of tables (word_of (slice_get ts 3)) ≡ Some left
-    → place_of tables (word_of (slice_get ts 5)) ≡ right → join_between (Some left) right ts ≡ join_of_tokens tables ts
+pub join_of_tokens-both : (tables : List TableWord) (ts : List Token) (left : ℕ) (right : Option ℕ) → is_join_form ts ≡ true → table_place tables (word_of (slice_get ts 3)) ≡ Some left
+    → table_place tables (word_of (slice_get ts 5)) ≡ right → join_between (Some left) right ts ≡ join_of_tokens tables ts
 join_of_tokens-both tables ts left right e f g =
-    sym (ap (λ b. cond b (join_between (place_of tables (word_of (slice_get ts 3))) (place_of tables (word_of (slice_get ts 5))) ts) None) e
-    ∙ ap (λ o. join_between o (place_of tables (word_of (slice_get ts 5))) ts) f ∙ ap (λ o. join_between (Some left) o ts) g)
+    sym (ap (λ b. cond b (join_between (table_place tables (word_of (slice_get ts 3))) (table_place tables (word_of (slice_get ts 5))) ts) None) e
+    ∙ ap (λ o. join_between o (table_place tables (word_of (slice_get ts 5))) ts) f ∙ ap (λ o. join_between (Some left) o ts) g)
 
 -- what a look-up among the words says of the place of a name
-pub place_of-is : {X : Type 0} (bytes : X → List ℕ) (ws : List X) (asked name : List ℕ) (o r : Option ℕ) → asked ≡ name
-    → o ≡ position (λ w. is_same_name (table_of_word (bytes w)).name asked) ws → o ≡ r → place_of (map table_of_word (map bytes ws)) name ≡ r
-place_of-is bytes ws asked name o r e f g =
-    place_of-words bytes ws name ∙ sym (ap (λ (n : List ℕ). position (λ w. is_same_name (table_of_word (bytes w)).name n) ws) e) ∙ sym f ∙ g
+pub table_place-is : {X : Type 0} (bytes : X → List ℕ) (ws : List X) (asked name : List ℕ) (o r : Option ℕ) → asked ≡ name
+    → o ≡ position (λ w. is_same_name (table_of_word (bytes w)).name asked) ws → o ≡ r → table_place (map table_of_word (map bytes ws)) name ≡ r
+table_place-is bytes ws asked name o r e f g =
+    table_place-words bytes ws name ∙ sym (ap (λ (n : List ℕ). position (λ w. is_same_name (table_of_word (bytes w)).name n) ws) e) ∙ sym f ∙ g
 
 -- the join of two tables that tokens ask for
 abbrev pub join_at : ℕ → ℕ → List Token → JoinQuery
@@ -245,12 +245,12 @@ join_between-two l r ts e = sym (ap (λ b. cond b None (Some (join_at l r ts))) 
 pub early_script-refused : (tables : List TableWord) (text : List ℕ) → (ltb 67108864 (length text) || not (eqb (utf8_valid_len text) (length text))) ≡ true
     → None ≡ early_script tables text
 unfolding early_script
-early_script-refused tables text e = sym (ap (λ b. cond b None (join_of_tokens tables (tokens_of 15 text))) e)
+early_script-refused tables text e = sym (ap (λ b. cond b None (join_of_tokens tables (early_tokens 15 text))) e)
 
 pub early_script-read : (tables : List TableWord) (text : List ℕ) → (ltb 67108864 (length text) || not (eqb (utf8_valid_len text) (length text))) ≡ false
-    → join_of_tokens tables (tokens_of 15 text) ≡ early_script tables text
+    → join_of_tokens tables (early_tokens 15 text) ≡ early_script tables text
 unfolding early_script
-early_script-read tables text e = sym (ap (λ b. cond b None (join_of_tokens tables (tokens_of 15 text))) e)
+early_script-read tables text e = sym (ap (λ b. cond b None (join_of_tokens tables (early_tokens 15 text))) e)
 
 -- the join of a script is of two different ones of the tables
 pub record IsOfTwo (tables : List TableWord) (query : JoinQuery) : Type 0 where
@@ -258,8 +258,8 @@ pub record IsOfTwo (tables : List TableWord) (query : JoinQuery) : Type 0 where
   pub right : query.right < length tables
   pub apart : ¬ (query.left ≡ query.right)
 
-place_of-in : (tables : List TableWord) (name : List ℕ) (i : ℕ) → place_of tables name ≡ Some i → i < length tables
-place_of-in tables name i e = (position-Some (λ (t : TableWord). is_same_name t.name name) tables i (record { name = []; file = [] }) e).0
+table_place-in : (tables : List TableWord) (name : List ℕ) (i : ℕ) → table_place tables name ≡ Some i → i < length tables
+table_place-in tables name i e = (position-Some (λ (t : TableWord). is_same_name t.name name) tables i (record { name = []; file = [] }) e).0
 
 IsOfTwo-from_between : (tables : List TableWord) (query : JoinQuery) (ts : List Token) (l r : Option ℕ)
     → ((i : ℕ) → l ≡ Some i → i < length tables) → ((i : ℕ) → r ≡ Some i → i < length tables)
@@ -275,16 +275,16 @@ IsOfTwo-from_between tables query ts (Some l) (Some r) left right e = by (eqb l 
         subst (IsOfTwo tables) same (record { left = left l refl; right = right r refl; apart = eqb-false l r f })
 
 IsOfTwo-from_tokens : (tables : List TableWord) (query : JoinQuery) (ts : List Token) (b : Bool)
-    → cond b (join_between (place_of tables (word_of (slice_get ts 3))) (place_of tables (word_of (slice_get ts 5))) ts) None ≡ Some query
+    → cond b (join_between (table_place tables (word_of (slice_get ts 3))) (table_place tables (word_of (slice_get ts 5))) ts) None ≡ Some query
     → IsOfTwo tables query
 IsOfTwo-from_tokens tables query ts true e =
-    IsOfTwo-from_between tables query ts _ _ (place_of-in tables (word_of (slice_get ts 3))) (place_of-in tables (word_of (slice_get ts 5))) e
+    IsOfTwo-from_between tables query ts _ _ (table_place-in tables (word_of (slice_get ts 3))) (table_place-in tables (word_of (slice_get ts 5))) e
 IsOfTwo-from_tokens tables query ts false e = absurd cc
 
 pub IsOfTwo-from_script : (tables : List TableWord) (text : List ℕ) (query : JoinQuery) → early_script tables text ≡ Some query → IsOfTwo tables query
 unfolding early_script
 IsOfTwo-from_script tables text query e = by (ltb 67108864 (length text) || not (eqb (utf8_valid_len text) (length text))) e
   where
-    by : (b : Bool) → cond b None (join_of_tokens tables (tokens_of 15 text)) ≡ Some query → IsOfTwo tables query
+    by : (b : Bool) → cond b None (join_of_tokens tables (early_tokens 15 text)) ≡ Some query → IsOfTwo tables query
     by true e = absurd cc
-    by false e = IsOfTwo-from_tokens tables query (tokens_of 15 text) (is_join_form (tokens_of 15 text)) e
+    by false e = IsOfTwo-from_tokens tables query (early_tokens 15 text) (is_join_form (early_tokens 15 text)) e

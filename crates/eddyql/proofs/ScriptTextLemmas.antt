@@ -11,7 +11,7 @@ use Rattle.sq_parse.specs.Spelling.{Spelled}
 use Rattle.sq_parse.specs.Fault.{IsFault, ReadsAs}
 use Rattle.outside.specs.Files.{File, lookup, Gives}
 use Rattle.eddyql.specs.Words.{Command, TableWord}
-use Rattle.eddyql.specs.Script.{JoinQuery, early_script}
+use Rattle.eddyql.specs.EarlyScript.{JoinQuery, early_script}
 use Rattle.eddyql.specs.ScriptText.{TextReadsAs, ScriptReadsAs, or_fault, refusal_of}
 use Rattle.eddyql.specs.Outcome.{◌>>=◌, or_refuse, join_spelled, join_read}
 use Rattle.eddyql.specs.Refusal.{MayRefuse, never}

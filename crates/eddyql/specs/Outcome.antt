@@ -10,11 +10,11 @@ use Rattle.sq_parse.specs.declared.parser.ParseFault.{ParseFault}
 use Rattle.sq_parse.specs.declared.parser.ParseFault.TheVariants.{Syntax}
 use Rattle.sq_parse.specs.declared.tree.Script.{Script}
 use Rattle.eddyql.specs.Words.{TableWord, Command, command}
-use Rattle.eddyql.specs.Script.{JoinQuery, early_script}
+use Rattle.eddyql.specs.EarlyScript.{JoinQuery, early_script}
 use Rattle.eddyql.specs.ScriptText.{ScriptReadsAs, or_fault}
-use Rattle.eddyql.specs.TableText.{early_table}
-use Rattle.eddyql.specs.Join.{no_meaning}
-use Rattle.eddyql.specs.Binding.{block_of}
+use Rattle.eddyql.specs.EarlyTable.{early_table}
+use Rattle.eddyql.specs.EarlyJoin.{no_meaning}
+use Rattle.eddyql.specs.EarlyBinding.{block_of}
 use Rattle.eddyql.specs.declared.plan.Plan.{Plan}
 use Rattle.eddyql.specs.declared.status.Status.{Status}
 use Rattle.eddyql.specs.declared.status.Status.TheVariants as status

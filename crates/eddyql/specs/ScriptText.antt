@@ -6,7 +6,7 @@ use Rattle.sq_parse.specs.declared.tree.Script.{Script}
 use Rattle.sq_parse.specs.Fault.{IsFault, ReadsAs}
 use Rattle.outside.specs.Files.{File, lookup}
 use Rattle.eddyql.specs.Words.{Command, TableWord, command}
-use Rattle.eddyql.specs.Script.{JoinQuery, early_script}
+use Rattle.eddyql.specs.EarlyScript.{JoinQuery, early_script}
 use Rattle.eddyql.specs.declared.status.Status.{Status}
 use Rattle.eddyql.specs.declared.status.Status.TheVariants as status
 

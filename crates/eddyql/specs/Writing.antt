@@ -1,4 +1,4 @@
--- When an answer can be written: its columns and rows are in range.
+-- For the proofs of the program alone: when an answer can be written: its columns and rows are in range.
 use Rattle.std.specs.Prelude.{◌≡◌, ℕ, ◌<◌, ◌≤◌, List, length, take, Some, slice_get, slice_index}
 use Rattle.csv.specs.Writing.{row_text, default_writer}
 use Rattle.sq_value.specs.Relation.{Relation}

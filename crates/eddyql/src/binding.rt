@@ -2,17 +2,17 @@
 
 ghost use Rattle.std.specs.Prelude.{◌≡◌, ◌<◌, ◌≤◌, ◌++◌, ◌∷◌, [], length, IfOk, OnOk, option_map};
 ghost use Rattle.sq_value.specs.Relation.{IsHeading};
-ghost use Rattle.eddyql.specs.Binding as spec;
-ghost use Rattle.eddyql.specs.Join as join;
+ghost use Rattle.eddyql.specs.EarlyBinding as spec;
+ghost use Rattle.eddyql.specs.EarlyJoin as join;
 ghost use Rattle.eddyql.specs.Outcome.{columns_at};
-ghost use Rattle.eddyql.specs.Script.{JoinQuery};
+ghost use Rattle.eddyql.specs.EarlyScript.{JoinQuery};
 
 use sq_expr::{Access, AliasUse, Block, ColumnOf, Cond, Conjunct, OutCol, Side};
 use sq_value::{Cmp, Column, Memory, SqText, Tables, same_name};
 use sqlite_items::Items;
 use std::alloc::Global;
 
-fn place_of(columns: &[Column], name: &str) -> Option<usize>
+fn column_place(columns: &[Column], name: &str) -> Option<usize>
     ensures { result ≡ spec.column_named columns.now name.now }
 {
     columns
@@ -107,7 +107,7 @@ fn column_named(columns: &[Column], name: &str) -> Option<u32>
     requires { length columns.now ≤ 64 }
     ensures { result ≡ spec.column_named columns.now name.now }
 {
-    match place_of(columns, name) {
+    match column_place(columns, name) {
         Some(place) => Some(place as u32),
         None => None,
     }

@@ -2,11 +2,14 @@
 //! answer as CSV.
 #![tactic(auto)]
 
+ghost use Rattle.std.specs.Prelude.{◌≡◌, ◌⊎◌};
+
 mod binding;
 mod join;
 mod loading;
 mod plan;
 mod preparing;
+mod program;
 mod reading;
 mod run;
 mod script;
@@ -15,23 +18,21 @@ mod words;
 mod writing;
 
 use outside::{RealFolder, RealSink};
-use run::run;
+use program::{all_words, code_for, program};
 use status::Status;
 use std::io;
 use std::process::ExitCode;
 use std::rt::Env;
 
-// The words of the command line behind the program's own name.
+// The words that the program was started with.
 fn given_words(rt: &(impl Env + AllocGlobal)) -> io::Result<Vec<String>> {
-    let mut words = Vec::new(rt.alloc());
-    for word in std::env::args(rt)?.skip(1) {
-        words.push(word)?;
-    }
-    Ok(words)
+    Ok(all_words(rt.alloc(), std::env::args(rt)?)?)
 }
 
 // The status of words that couldn't be had: want of memory, or a word that isn't UTF-8.
-fn status_without_words(error: &io::Error) -> Status {
+fn status_without_words(error: &io::Error) -> Status
+    ensures { (result ≡ Status.Memory) ⊎ (result ≡ Status.Usage) }
+{
     match error.kind() {
         io::ErrorKind::OutOfMemory => Status::Memory,
         _ => Status::Usage,
@@ -39,14 +40,13 @@ fn status_without_words(error: &io::Error) -> Status {
 }
 
 fn main(rt: HostRuntime) -> ExitCode {
-    let status = match given_words(&rt) {
+    match given_words(&rt) {
         Ok(words) => {
             let mut folder = RealFolder::new(&rt);
             let mut out = RealSink::new(rt.stdout());
             let mut notes = RealSink::new(rt.stderr());
-            run(rt.alloc(), &words, &mut folder, &mut out, &mut notes)
+            program(rt.alloc(), &words, &mut folder, &mut out, &mut notes)
         }
-        Err(error) => status_without_words(&error),
-    };
-    ExitCode::from(status.code())
+        Err(error) => code_for(status_without_words(&error)),
+    }
 }

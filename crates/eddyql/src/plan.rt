@@ -1,3 +1,4 @@
+//! What a run runs.
 use sq_expr::Block;
 use sq_value::Tables;
 

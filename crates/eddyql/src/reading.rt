@@ -2,8 +2,8 @@
 //! integers below.
 
 ghost use Rattle.std.specs.Prelude.{◌≡◌, Some, None, IfOk};
-ghost use Rattle.eddyql.specs.TableText.{early_table};
-ghost use Rattle.eddyql.specs.TableText as spec;
+ghost use Rattle.eddyql.specs.EarlyTable.{early_table};
+ghost use Rattle.eddyql.specs.EarlyTable as spec;
 ghost use Rattle.eddyql.specs.declared.reading.ReadFault.TheVariants as fault;
 
 mod heading;

@@ -11,12 +11,12 @@ ghost use Rattle.bag_meaning.specs.Answer.{answer};
 ghost use Rattle.eddyql.specs.Words.{command};
 ghost use Rattle.sq_parse.specs.Fault.{IsFault};
 ghost use Rattle.eddyql.specs.ScriptText.{HasScript, RefusesScript};
-ghost use Rattle.eddyql.specs.Join.{no_meaning};
+ghost use Rattle.eddyql.specs.EarlyJoin.{no_meaning};
 ghost use Rattle.eddyql.specs.Writing.{HasRows, rows_of_combo};
 ghost use Rattle.eddyql.specs.Outcome.{IsOutcome, OneOutcome, text_of, ReachedBy};
 ghost use Rattle.eddyql.specs.Run.{MayEnd, status_of, text_due, IsLate, IsBeforeOutput};
 ghost use Rattle.eddyql.specs.Refusal.{UnlessReadOrMemory};
-ghost use Rattle.eddyql.specs.Runnable.{IsRunnable};
+ghost use Rattle.eddyql.specs.EarlyRunnable.{IsRunnable};
 ghost use Rattle.eddyql.specs.declared.status.FileOf.{FileOf};
 
 use crate::join::join;

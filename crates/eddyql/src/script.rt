@@ -6,8 +6,8 @@ ghost use Rattle.std.specs.String.{string_bytes};
 ghost use Rattle.std.specs.Str.Lossy.{utf8_valid_len};
 ghost use Rattle.sq_value.specs.Name.{is_same_name};
 ghost use Rattle.eddyql.specs.Words.{table_of_word};
-ghost use Rattle.eddyql.specs.Script as spec;
-ghost use Rattle.eddyql.specs.Seen.{token_seen, join_seen};
+ghost use Rattle.eddyql.specs.EarlyScript as spec;
+ghost use Rattle.eddyql.specs.EarlySeen.{token_seen, join_seen};
 ghost use Rattle.eddyql.specs.ScriptText.{EarlyParses};
 
 mod tokens;
@@ -99,7 +99,7 @@ fn name_at<'s>(tokens: &[Token<'s>], at: usize) -> &'s str
 }
 
 // The place of the table word with this name.
-fn place_of(tables: &[String], name: &str) -> Option<usize>
+fn table_place(tables: &[String], name: &str) -> Option<usize>
     ensures { result ≡ position (λ w. is_same_name (table_of_word (string_bytes w)).name name.now) tables.now }
 {
     tables
@@ -172,8 +172,8 @@ fn join_of_tokens<'s>(tables: &[String], tokens: &[Token<'s>]) -> Option<JoinQue
     if !is_join_form(tokens) {
         return None;
     }
-    let left = place_of(tables, name_at(tokens, 3))?;
-    let right = place_of(tables, name_at(tokens, 5))?;
+    let left = table_place(tables, name_at(tokens, 3))?;
+    let right = table_place(tables, name_at(tokens, 5))?;
     if left == right {
         return None;
     }

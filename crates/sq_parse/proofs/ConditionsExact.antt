@@ -41,8 +41,8 @@ module _ (limits : Limits) (nested : (n : ℕ) → limits.narrow n ≡ true → 
   unfolding read.primary same
   primary l p x = weaker begins_primary ends_operand (either (is k.Open) x (predicate limits nested) refl refl) refl refl
 
-  test : (l : List Tok → Tree → Type 0) (p : Parser Tree) → Exact (rule.enclosed l) p (is k.Open) anything → Exact (g.test limits l) (read.test limits p) begins_primary ends_test
-  unfolding read.test same
+  test : (l : List Tok → Tree → Type 0) (p : Parser Tree) → Exact (rule.enclosed l) p (is k.Open) anything → Exact (g.test limits l) (read.truth_test limits p) begins_primary ends_test
+  unfolding read.truth_test same
   test l p x = gives (λ p. tested p.0 p.1) (followed (primary l p x)
       (maybe (is k.Is) ends_test (after k.Is refl (followed (negated limits is_truth_word refl) (token is_truth_word refl) refl)) refl refl refl) refl)
 

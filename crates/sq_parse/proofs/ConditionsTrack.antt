@@ -82,8 +82,8 @@ module _ (C : Faults) where
   abbrev Lower : (m m' l l' : List Tok → Tree → Type 0) (q q' : Parser Tree) → Type 0
   Lower m m' l l' q q' = TracksWhen (λ ts. is k.Not (next ts)) (g.negation shipped m l) (g.negation unlimited m' l') (t.Not <$> q) (t.Not <$> q') C unstarred unstarred
 
-  test : (l l' : List Tok → Tree → Type 0) (p p' : Parser Tree) → Inner l l' p p' → Tracks (g.test shipped l) (g.test unlimited l') (read.test shipped p) (read.test unlimited p') C unstarred unstarred
-  unfolding read.test read.primary same
+  test : (l l' : List Tok → Tree → Type 0) (p p' : Parser Tree) → Inner l l' p p' → Tracks (g.test shipped l) (g.test unlimited l') (read.truth_test shipped p) (read.truth_test unlimited p') C unstarred unstarred
+  unfolding read.truth_test read.primary same
   test l l' p p' x = gives (λ p. tested p.0 p.1) (followed (chosen (is k.Open) x (along (λ us a h. inr h) (λ us a h. inr h) predicate))
       (maybe (is k.Is) refl (plainly (after k.Is refl refl refl refl (followed (predicates.negated C) (token C is_truth_word unstarred k.True refl refl refl refl) refl)))) refl)
 

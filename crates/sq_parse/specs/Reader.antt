@@ -191,12 +191,12 @@ module _ (limits : Limits) where
   unfoldable pub primary : Parser Tree → Parser Tree
   primary inner = choose (is k.Open) inner predicate
 
-  unfoldable pub test : Parser Tree → Parser Tree
-  test inner = (λ p. tested p.0 p.1)
+  unfoldable pub truth_test : Parser Tree → Parser Tree
+  truth_test inner = (λ p. tested p.0 p.1)
       <$> (primary inner <+> optional (is k.Is) (after k.Is (optional (is k.Not) (mark k.Not) <+> token is_truth_word)))
 
   unfoldable pub negation : Parser Tree → Parser Tree → Parser Tree
-  negation lower inner = choose (is k.Not) (t.Not <$> lower) (test inner)
+  negation lower inner = choose (is k.Not) (t.Not <$> lower) (truth_test inner)
 
   -- where no more parentheses and NOTs may be open, both are refused
   unfoldable pub neg : ℕ → Parser Tree
@@ -217,7 +217,7 @@ module _ (limits : Limits) where
   primary_at d = primary (nested d)
 
   unfoldable pub test_at : ℕ → Parser Tree
-  test_at d = test (nested d)
+  test_at d = truth_test (nested d)
 
   unfoldable pub conjunction_at : ℕ → Parser Tree
   conjunction_at d = conjunction (neg d)

@@ -80,7 +80,7 @@ fn primary(alloc: Global, tokens: &mut Cursor<'_>, depth: u8) -> Result<Tree, St
 }
 
 #[cycle(condition)]
-#[tactic(auto, unfolding(crate::specs::Reader::test_at, crate::specs::Reader::test, crate::specs::Reader::primary_at, crate::specs::Reader::truth))]
+#[tactic(auto, unfolding(crate::specs::Reader::test_at, crate::specs::Reader::truth_test, crate::specs::Reader::primary_at, crate::specs::Reader::truth))]
 fn test(alloc: Global, tokens: &mut Cursor<'_>, depth: u8) -> Result<Tree, Stop>
     ensures { Reads (spec.test_at shipped depth tokens.old) result tokens.new }
 {

@@ -5,7 +5,7 @@ ghost use Rattle.std.specs.List.{list_all, list_any};
 ghost use Rattle.sq_value.specs.Name.{is_same_name};
 ghost use Rattle.csv.specs.Records.{fields_of};
 ghost use Rattle.sq_value.specs.declared.table.Column.{Column};
-ghost use Rattle.eddyql.specs.TableText.{all_differ, column_of, is_heading};
+ghost use Rattle.eddyql.specs.EarlyTable.{all_differ, column_of, is_heading};
 ghost use Rattle.eddyql.specs.Words as words;
 
 use super::ReadFault;

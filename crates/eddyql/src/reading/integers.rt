@@ -4,9 +4,9 @@ ghost use Rattle.std.specs.Prelude.{◌≡◌, ◌∷◌, [], ◌++◌, ◌<◌,
 ghost use Rattle.std.specs.List.{list_all};
 ghost use Rattle.csv.specs.Records.{fields_of};
 ghost use Rattle.sq_value.specs.Numeral.{all_digits};
-ghost use Rattle.eddyql.specs.TableText.{integer_of, is_canonical, is_integer_row};
-ghost use Rattle.eddyql.specs.TableText as spec;
-ghost use Rattle.eddyql.specs.Reading.{AllIntegers};
+ghost use Rattle.eddyql.specs.EarlyTable.{integer_of, is_canonical, is_integer_row};
+ghost use Rattle.eddyql.specs.EarlyTable as spec;
+ghost use Rattle.eddyql.specs.EarlyReading.{AllIntegers};
 
 use super::ReadFault;
 use csv::ByteRecord;

@@ -3,8 +3,8 @@
 ghost use Rattle.std.specs.Prelude.{◌≡◌, ◌<◌, [], Some, None, true, false, length, IfOk, IfErr, OnOk};
 ghost use Rattle.csv.specs.Reading.{default_config, error_kind, records, stops_reader};
 ghost use Rattle.csv.specs.Records.{fields_of};
-ghost use Rattle.eddyql.specs.TableText.{begins_with_mark, table_of_records};
-ghost use Rattle.eddyql.specs.Reading.{AllIntegers, GivesNext, IsPlain, filled, records_left};
+ghost use Rattle.eddyql.specs.EarlyTable.{begins_with_mark, table_of_records};
+ghost use Rattle.eddyql.specs.EarlyReading.{AllIntegers, GivesNext, IsPlain, filled, records_left};
 
 use super::ReadFault;
 use super::heading::read_heading;

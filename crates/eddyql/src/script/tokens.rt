@@ -4,8 +4,8 @@ ghost use Rattle.std.specs.Prelude.{◌≡◌, ◌==◌, ◌&&◌, ◌||◌, ◌
 ghost use Rattle.std.specs.List.{position_or_len, prefix_len};
 ghost use Rattle.std.specs.Str.{IsAscii};
 ghost use Rattle.eddyql.specs.Words as words_spec;
-ghost use Rattle.eddyql.specs.Script as spec;
-ghost use Rattle.eddyql.specs.Seen.{token_seen, front_seen};
+ghost use Rattle.eddyql.specs.EarlyScript as spec;
+ghost use Rattle.eddyql.specs.EarlySeen.{token_seen, front_seen};
 
 use crate::words::{begins_identifier, follows_in_identifier};
 use sq_value::Memory;
@@ -99,7 +99,7 @@ fn split_token(text: &[u8]) -> Option<(Token<'_>, &[u8])>
 /// # Errors
 /// `Memory`: there is no memory for the list.
 pub fn first_tokens<'s>(alloc: Global, count: u32, text: &'s [u8]) -> Result<Vec<Token<'s>>, Memory>
-    ensures { IfOk result (λ v. map token_seen v.items ≡ spec.tokens_of count text.now) }
+    ensures { IfOk result (λ v. map token_seen v.items ≡ spec.early_tokens count text.now) }
 {
     let mut tokens = Vec::new(alloc);
     let mut rest = text;

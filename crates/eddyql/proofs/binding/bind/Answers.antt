@@ -1,7 +1,7 @@
 use Rattle.std.proofs.Common.{◌≡◌, ℕ, List, Option, Some, None, refl, sym, ap, ◌∙◌}
 use Rattle.sq_value.specs.declared.table.Column.{Column}
-use Rattle.eddyql.specs.Binding.{column_named}
-use Rattle.eddyql.specs.Script.{JoinQuery}
+use Rattle.eddyql.specs.EarlyBinding.{column_named}
+use Rattle.eddyql.specs.EarlyScript.{JoinQuery}
 use Rattle.eddyql.proofs.BindingLemmas.{columns_at-Some, block_of-no_left, block_of-no_right, block_of-both}
 use Rattle.eddyql.proofs.binding.bind.Goals as goal
 

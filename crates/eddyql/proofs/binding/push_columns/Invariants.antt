@@ -1,5 +1,5 @@
 use Rattle.std.proofs.Common.{◌≡◌, ◌++◌, take}
-use Rattle.eddyql.specs.Binding.{columns_of}
+use Rattle.eddyql.specs.EarlyBinding.{columns_of}
 use Rattle.eddyql.proofs.binding.push_columns.Given as goal
 
 abbrev pub invariant-loop-index : goal.invariant-loop-index

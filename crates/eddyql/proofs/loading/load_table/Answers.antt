@@ -2,7 +2,7 @@ use Rattle.std.proofs.Common.{◌≡◌, ℕ, List, Some, sym, ap, subst, ◌∙
 use Rattle.std.specs.Prelude.{IsSome}
 use Rattle.std.proofs.lemmas.Result.{IfOk-weaker, IfErr-weaker}
 use Rattle.outside.specs.Files.{File, Gives}
-use Rattle.eddyql.specs.TableText.{early_table}
+use Rattle.eddyql.specs.EarlyTable.{early_table}
 use Rattle.eddyql.specs.Words.{table_of_word}
 use Rattle.eddyql.specs.Outcome.{or_refuse, table_read}
 use Rattle.eddyql.specs.declared.status.Status.TheVariants as status

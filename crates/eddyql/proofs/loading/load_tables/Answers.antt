@@ -7,7 +7,7 @@ use Rattle.outside.proofs.Laws.{Rose-earlier}
 use Rattle.sq_value.specs.Relation.{Relation}
 use Rattle.eddyql.specs.Words.{table_of_word}
 use Rattle.eddyql.specs.Outcome.{tables_read, table_read, ReachedTable}
-use Rattle.eddyql.specs.Loaded.{IsIntegerTable}
+use Rattle.eddyql.specs.EarlyLoaded.{IsIntegerTable}
 use Rattle.eddyql.specs.declared.status.FileOf.{FileOf}
 use Rattle.eddyql.specs.declared.status.FileOf.TheVariants as file
 use Rattle.eddyql.proofs.OutcomeLemmas.{tables_read-more, MayRefuse-next, reads_weaker, next_reached, word_told, length-table_words}

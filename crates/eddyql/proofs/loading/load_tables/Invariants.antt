@@ -5,7 +5,7 @@ use Rattle.outside.specs.Files.{File}
 use Rattle.outside.specs.Faults.{NeverFalls}
 use Rattle.eddyql.specs.Words.{table_of_word}
 use Rattle.eddyql.specs.Outcome.{tables_read}
-use Rattle.eddyql.specs.Loaded.{IsIntegerTable}
+use Rattle.eddyql.specs.EarlyLoaded.{IsIntegerTable}
 use Rattle.eddyql.proofs.loading.load_tables.Given as goal
 
 abbrev pub invariant-loop-index : goal.invariant-loop-index

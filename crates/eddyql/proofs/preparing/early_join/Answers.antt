@@ -2,7 +2,7 @@ use Rattle.std.proofs.Common.{sym, ap, ◌∙◌, arith}
 use Rattle.std.specs.Prelude.{option_map, map}
 use Rattle.std.specs.String.{string_bytes}
 use Rattle.eddyql.specs.Words.{table_of_word}
-use Rattle.eddyql.specs.Seen.{join_seen}
+use Rattle.eddyql.specs.EarlySeen.{join_seen}
 use Rattle.eddyql.proofs.OutcomeLemmas.{length-table_words}
 use Rattle.eddyql.proofs.ScriptLemmas.{IsOfTwo, IsOfTwo-from_script}
 use Rattle.eddyql.proofs.preparing.early_join.Goals as goal

@@ -4,7 +4,7 @@ use Rattle.std.specs.String.{string_bytes}
 use Rattle.std.proofs.lemmas.Result.{err_from_is_err_and}
 use Rattle.outside.proofs.Laws.{Rose-earlier}
 use Rattle.eddyql.specs.Words.{Command, command_of, table_of_word}
-use Rattle.eddyql.specs.Seen.{join_seen}
+use Rattle.eddyql.specs.EarlySeen.{join_seen}
 use Rattle.eddyql.specs.Outcome.{Reached, ReachedTable}
 use Rattle.eddyql.proofs.StageLemmas.{MayRefuse-same, unread_only, holds_anyway, holds_same}
 use Rattle.eddyql.proofs.OutcomeLemmas.{reads_weaker}

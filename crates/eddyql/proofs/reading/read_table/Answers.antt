@@ -1,8 +1,8 @@
 use Rattle.std.proofs.Common.{◌≡◌, ◌∙◌, Option, None, Some, Err, sym, ap, subst}
 use Rattle.std.specs.Prelude.{IfOk}
 use Rattle.sq_value.specs.Relation.{Relation}
-use Rattle.eddyql.specs.Reading.{records_left}
-use Rattle.eddyql.specs.TableText.{early_table, table_of_records}
+use Rattle.eddyql.specs.EarlyReading.{records_left}
+use Rattle.eddyql.specs.EarlyTable.{early_table, table_of_records}
 use Rattle.eddyql.specs.declared.reading.ReadFault.TheVariants as fault
 use Rattle.eddyql.proofs.EarlyLemmas.{early_table-read, early_table-mark, early_table-long}
 use Rattle.eddyql.proofs.reading.read_table.Goals as goal

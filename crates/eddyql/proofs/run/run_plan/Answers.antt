@@ -1,6 +1,6 @@
 use Rattle.std.proofs.Common.{sym, ◌∙◌}
 use Rattle.bag_meaning.proofs.AnswerLemmas.{answer-unordered}
-use Rattle.eddyql.specs.Join.{no_meaning}
+use Rattle.eddyql.specs.EarlyJoin.{no_meaning}
 use Rattle.eddyql.proofs.run.run_plan.Goals as goal
 
 pub put_answer-requires-clause-found : goal.put_answer-requires-clause-found

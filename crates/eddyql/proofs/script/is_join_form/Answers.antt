@@ -1,6 +1,6 @@
 use Rattle.std.proofs.Common.{sym, ◌∙◌}
 use Rattle.std.specs.Prelude.{map, length, ◌==◌}
-use Rattle.eddyql.specs.Seen.{token_seen}
+use Rattle.eddyql.specs.EarlySeen.{token_seen}
 use Rattle.eddyql.proofs.ScriptLemmas.{HasNames-from_parts}
 use Rattle.eddyql.proofs.script.is_join_form.Goals as goal
 

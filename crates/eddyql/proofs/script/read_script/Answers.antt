@@ -2,8 +2,8 @@ use Rattle.std.proofs.Common.{sym, ap, ◌∙◌}
 use Rattle.std.specs.Prelude.{not, map}
 use Rattle.std.specs.String.{string_bytes}
 use Rattle.eddyql.specs.Words.{table_of_word}
-use Rattle.eddyql.specs.Script.{join_of_tokens}
-use Rattle.eddyql.specs.Seen.{token_seen}
+use Rattle.eddyql.specs.EarlyScript.{join_of_tokens}
+use Rattle.eddyql.specs.EarlySeen.{token_seen}
 use Rattle.eddyql.proofs.ScriptLemmas.{early_script-refused, early_script-read}
 use Rattle.eddyql.proofs.script.read_script.Goals as goal
 

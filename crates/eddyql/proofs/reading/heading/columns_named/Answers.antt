@@ -1,6 +1,6 @@
 use Rattle.std.proofs.Common.{Bor, ◌∙◌, ap}
 use Rattle.csv.specs.Records.{Row}
-use Rattle.eddyql.specs.TableText.{column_of}
+use Rattle.eddyql.specs.EarlyTable.{column_of}
 use Rattle.eddyql.specs.Words.{is_identifier}
 use Rattle.eddyql.specs.declared.reading.ReadFault.TheVariants.{NotATable}
 use Rattle.eddyql.proofs.ExitLemmas.{Err-exit}

@@ -1,6 +1,6 @@
 use Rattle.std.proofs.Common.{◌≡◌}
 use Rattle.csv.specs.Records.{fields_of}
-use Rattle.eddyql.specs.TableText.{column_of}
+use Rattle.eddyql.specs.EarlyTable.{column_of}
 use Rattle.eddyql.specs.Words.{is_identifier}
 use Rattle.eddyql.proofs.FieldLemmas.{Passed}
 use Rattle.eddyql.proofs.reading.heading.columns_named.Given as goal

@@ -1,5 +1,5 @@
 use Rattle.std.proofs.Common.{◌≡◌, drop}
-use Rattle.eddyql.specs.TableText.{all_differ}
+use Rattle.eddyql.specs.EarlyTable.{all_differ}
 use Rattle.eddyql.proofs.HeadingLemmas.{names_of}
 use Rattle.eddyql.proofs.reading.heading.names_differ.Given as goal
 

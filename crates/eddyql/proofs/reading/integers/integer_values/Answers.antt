@@ -1,6 +1,6 @@
 use Rattle.std.proofs.Common.{Bor, ◌∙◌, ap}
 use Rattle.csv.specs.Records.{Row}
-use Rattle.eddyql.specs.TableText.{integer_of, is_canonical}
+use Rattle.eddyql.specs.EarlyTable.{integer_of, is_canonical}
 use Rattle.eddyql.proofs.FieldLemmas.{Passed-more, Passed-end, Passed-fails}
 use Rattle.eddyql.proofs.reading.integers.integer_values.Goals as goal
 

@@ -1,6 +1,6 @@
 use Rattle.std.proofs.Common.{◌≡◌}
 use Rattle.csv.specs.Records.{fields_of}
-use Rattle.eddyql.specs.TableText.{integer_of, is_canonical}
+use Rattle.eddyql.specs.EarlyTable.{integer_of, is_canonical}
 use Rattle.eddyql.proofs.FieldLemmas.{Passed}
 use Rattle.eddyql.proofs.reading.integers.integer_values.Given as goal
 

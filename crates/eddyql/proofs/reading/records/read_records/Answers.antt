@@ -3,7 +3,7 @@ use Rattle.std.proofs.lemmas.Bool.{true≢false}
 use Rattle.csv.specs.Records.{fields_of}
 use Rattle.sq_value.specs.Relation.{IsHeading, Relation}
 use Rattle.eddyql.specs.declared.reading.ReadFault.TheVariants.{NotATable}
-use Rattle.eddyql.specs.Reading.{AllIntegers, records_left}
+use Rattle.eddyql.specs.EarlyReading.{AllIntegers, records_left}
 use Rattle.eddyql.proofs.ExitLemmas.{Err-exit}
 use Rattle.eddyql.proofs.HeadingLemmas.{AllIntegers-columns, IsHeading-columns}
 use Rattle.eddyql.proofs.FilledLemmas.{IsBegun, IsBegun-read, table_of_records-no_heading, table_of_records-filled, table_of_records-empty, table_of_records-unfit}

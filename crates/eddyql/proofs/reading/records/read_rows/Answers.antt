@@ -2,8 +2,8 @@ use Rattle.std.proofs.Common.{◌≡◌, ◌+◌, ◌∙◌, ap, length, map, su
 use Rattle.std.proofs.lemmas.List.{length_push}
 use Rattle.csv.specs.Records.{fields_of}
 use Rattle.sq_value.specs.Relation.{Relation}
-use Rattle.eddyql.specs.Reading.{AllIntegers, records_left}
-use Rattle.eddyql.specs.TableText.{integer_of}
+use Rattle.eddyql.specs.EarlyReading.{AllIntegers, records_left}
+use Rattle.eddyql.specs.EarlyTable.{integer_of}
 use Rattle.eddyql.proofs.FilledLemmas.{filled-more, with_row}
 use Rattle.eddyql.proofs.reading.records.read_rows.Goals as goal
 

@@ -1,5 +1,5 @@
 use Rattle.std.proofs.Common.{◌≡◌, length}
-use Rattle.eddyql.specs.Reading.{AllIntegers, IsPlain, filled, records_left}
+use Rattle.eddyql.specs.EarlyReading.{AllIntegers, IsPlain, filled, records_left}
 use Rattle.eddyql.proofs.reading.records.read_rows.Given as goal
 
 abbrev pub invariant-loop : goal.invariant-loop

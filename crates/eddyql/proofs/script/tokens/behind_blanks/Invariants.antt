@@ -1,5 +1,5 @@
 use Rattle.std.proofs.Common.{◌≡◌, false, length}
-use Rattle.eddyql.specs.Script.{skipped}
+use Rattle.eddyql.specs.EarlyScript.{skipped}
 use Rattle.eddyql.proofs.script.tokens.behind_blanks.Given as goal
 
 abbrev pub invariant-loop-rest : goal.invariant-loop-rest

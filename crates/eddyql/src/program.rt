@@ -1,0 +1,78 @@
+//! The program over any folder and outputs: from the words that it was started with to the code
+//! that it ends with.
+
+ghost use Rattle.std.specs.Prelude.{◌≡◌, ◌⊎◌, ◌++◌, ℕ, List, Some, None, Result, IsOkAnd, IfOk, map, drop};
+ghost use Rattle.std.specs.Process.{exit_status};
+ghost use Rattle.std.specs.String.{string_bytes};
+ghost use Rattle.std.specs.Vec.Iter.{into_iter_items};
+ghost use Rattle.outside.specs.Files.{File};
+ghost use Rattle.outside.specs.Faults.{Rose};
+ghost use Rattle.outside.specs.Told.{Adds};
+ghost use Rattle.eddyql.specs.Words.{command};
+ghost use Rattle.eddyql.specs.Outcome.{IsOutcome};
+ghost use Rattle.eddyql.specs.Run.{status_of};
+ghost use Rattle.eddyql.specs.Stage.{stage_of, code_of};
+
+use crate::run::run;
+use crate::status::Status;
+use outside::{Folder, Sink};
+use std::alloc::{AllocError, Global};
+use std::env::Args;
+use std::process::ExitCode;
+
+/// All words, in order.
+///
+/// # Errors
+/// There is no memory for the list.
+pub fn all_words(alloc: Global, words: Args) -> Result<Vec<String>, AllocError>
+    ensures { IfOk result (λ all. all.items ≡ into_iter_items words) }
+{
+    let mut all = Vec::new(alloc);
+    for word in words {
+        all.push(word)?;
+    }
+    Ok(all)
+}
+
+/// The exit code of a run that ended so.
+pub fn code_for(status: Status) -> ExitCode
+    ensures { exit_status result ≡ code_of (stage_of status) }
+{
+    ExitCode::from(status.code())
+}
+
+// The words behind the first, which is the program's own name.
+fn behind_name(words: &[String]) -> &[String]
+    ensures { map string_bytes result.now ≡ drop 1 (map string_bytes words.now) }
+{
+    match words {
+        [_, rest @ ..] => rest,
+        [] => words,
+    }
+}
+
+/// Runs the words that the program was started with, the first of which is its own name, and
+/// answers the code that it ends with.
+///
+/// Every word behind the name is handed to [`run`], and the code is that of the run's status.
+pub fn program<F: Folder, O: Sink, N: Sink>(
+    alloc: Global,
+    words: &[String],
+    folder: &mut F,
+    out: &mut O,
+    notes: &mut N,
+) -> ExitCode
+    ensures usage { command (drop 1 (map string_bytes words.now)) ≡ None → exit_status result ≡ 2 }
+    ensures done { exit_status result ≡ 0 → (files : List File) → F.holds folder.old ≡ Some files
+        → (due : Result (List ℕ) Status) → IsOutcome (drop 1 (map string_bytes words.now)) files due
+        → IsOkAnd due (λ text. Adds (O.written out.old) (O.written out.new) text) }
+    ensures complete { (files : List File) → F.holds folder.old ≡ Some files
+        → ¬ (Rose (F.faults folder.old) (F.faults folder.new)) → ¬ (Rose (O.faults out.old) (O.faults out.new))
+        → (due : Result (List ℕ) Status) → IsOutcome (drop 1 (map string_bytes words.now)) files due
+        → (exit_status result ≡ code_of (stage_of (status_of due))) ⊎ (exit_status result ≡ 9) }
+{
+    code_for(run(alloc, behind_name(words), folder, out, notes))
+}
+
+#[cfg(test)]
+mod tests;

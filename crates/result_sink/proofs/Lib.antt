@@ -1,0 +1,4 @@
+pub mod TextLemmas
+mod DecimalLaws
+mod KeyLaws
+mod OrderLaws

@@ -1,0 +1,123 @@
+//! Writes an answer as CSV: the heading, and a record for each combination.
+
+ghost use Rattle.std.specs.Prelude.{◌≡◌, OnOk, OnErr, map};
+ghost use Rattle.std.specs.List.{flat_map};
+ghost use Rattle.csv.specs.Writing.{default_writer, row_text};
+ghost use Rattle.bag_meaning.specs.Answer.{heading_fields, answer_text};
+ghost use Rattle.outside.specs.Faults.{NeverFalls, Rose};
+ghost use Rattle.outside.specs.Told.{Adds, AddsFront};
+ghost use Rattle.result_sink.specs.Ready.{IsShown, rows_of_combo, record_text};
+
+use crate::fault::WriteFault;
+use crate::record::{heading_line, record_line};
+use bag_meaning::Combo;
+use outside::Sink;
+use sq_expr::Block;
+use sq_value::Tables;
+use std::alloc::Global;
+
+/// One put of a line.
+fn put_line<O: Sink>(line: &[u8], out: &mut O) -> Result<(), WriteFault>
+    ensures counts { NeverFalls (O.faults out.old) (O.faults out.new) }
+    ensures ok { OnOk result (Adds (O.written out.old) (O.written out.new) line.now) }
+    ensures failed { OnErr result (Rose (O.faults out.old) (O.faults out.new)) }
+    ensures front { OnErr result (AddsFront (O.written out.old) (O.written out.new) line.now) }
+    ensures kept { OnOk result (O.faults out.new ≡ O.faults out.old) }
+{
+    match out.put(line) {
+        Ok(()) => Ok(()),
+        Err(_) => Err(WriteFault::Failed),
+    }
+}
+
+/// One put of the heading.
+fn put_heading<O: Sink>(line: &mut Vec<u8>, block: &Block, out: &mut O) -> Result<(), WriteFault>
+    ensures counts { NeverFalls (O.faults out.old) (O.faults out.new) }
+    ensures ok { OnOk result (Adds (O.written out.old) (O.written out.new)
+        (row_text default_writer (heading_fields block.now))) }
+    ensures failed { result ≡ Err WriteFault.Failed → Rose (O.faults out.old) (O.faults out.new) }
+    ensures front { OnErr result (AddsFront (O.written out.old) (O.written out.new)
+        (row_text default_writer (heading_fields block.now))) }
+    ensures kept { OnOk result (O.faults out.new ≡ O.faults out.old) }
+{
+    if heading_line(line, block).is_err() {
+        return Err(WriteFault::Memory);
+    }
+    put_line(line, out)
+}
+
+/// One put of the record of a combination.
+fn put_record<O: Sink>(
+    line: &mut Vec<u8>,
+    block: &Block,
+    tables: &Tables,
+    combo: &Combo,
+    out: &mut O,
+) -> Result<(), WriteFault>
+    requires { IsShown block.now tables.now }
+    ensures counts { NeverFalls (O.faults out.old) (O.faults out.new) }
+    ensures ok { OnOk result (Adds (O.written out.old) (O.written out.new)
+        (record_text block.now tables.now combo.now)) }
+    ensures failed { result ≡ Err WriteFault.Failed → Rose (O.faults out.old) (O.faults out.new) }
+    ensures front { OnErr result (AddsFront (O.written out.old) (O.written out.new)
+        (record_text block.now tables.now combo.now)) }
+    ensures kept { OnOk result (O.faults out.new ≡ O.faults out.old) }
+{
+    if record_line(line, block, tables, combo).is_err() {
+        return Err(WriteFault::Memory);
+    }
+    put_line(line, out)
+}
+
+/// A put for each combination, in order.
+fn put_records<O: Sink>(
+    line: &mut Vec<u8>,
+    block: &Block,
+    tables: &Tables,
+    combos: &[Combo],
+    out: &mut O,
+) -> Result<(), WriteFault>
+    requires { IsShown block.now tables.now }
+    ensures counts { NeverFalls (O.faults out.old) (O.faults out.new) }
+    ensures ok { OnOk result (Adds (O.written out.old) (O.written out.new)
+        (flat_map (record_text block.now tables.now) combos.now)) }
+    ensures failed { result ≡ Err WriteFault.Failed → Rose (O.faults out.old) (O.faults out.new) }
+    ensures front { OnErr result (AddsFront (O.written out.old) (O.written out.new)
+        (flat_map (record_text block.now tables.now) combos.now)) }
+    ensures kept { OnOk result (O.faults out.new ≡ O.faults out.old) }
+{
+    for combo in combos {
+        put_record(line, block, tables, combo, out)?;
+    }
+    Ok(())
+}
+
+/// Writes an answer: the heading, and a record for each combination, in the given order. Each
+/// record is one put, and each is made in one buffer.
+///
+/// The block has at most 12 aliases, and its output columns are there. A row that isn't there is
+/// one of nulls.
+///
+/// # Errors
+/// `Failed`: the output's count of faults rose. `Memory`: there is no memory for a record. After
+/// either, a front of the answer's text was written.
+pub fn write_answer<O: Sink>(
+    alloc: Global,
+    block: &Block,
+    tables: &Tables,
+    combos: &[Combo],
+    out: &mut O,
+) -> Result<(), WriteFault>
+    requires { IsShown block.now tables.now }
+    ensures counts { NeverFalls (O.faults out.old) (O.faults out.new) }
+    ensures ok { OnOk result (Adds (O.written out.old) (O.written out.new)
+        (answer_text block.now tables.now (map (rows_of_combo block.now) combos.now))) }
+    ensures failed { result ≡ Err WriteFault.Failed → Rose (O.faults out.old) (O.faults out.new) }
+    ensures front { OnErr result (AddsFront (O.written out.old) (O.written out.new)
+        (answer_text block.now tables.now (map (rows_of_combo block.now) combos.now))) }
+    ensures kept { OnOk result (O.faults out.new ≡ O.faults out.old) }
+{
+    let mut line = Vec::new(alloc);
+    put_heading(&mut line, block, out)?;
+    put_records(&mut line, block, tables, combos, out)
+}

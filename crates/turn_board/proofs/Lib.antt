@@ -1,0 +1,15 @@
+pub mod Rosters
+pub mod Rows
+pub mod Frames
+pub mod Somes
+pub mod Dry
+pub mod Keeping
+pub mod Turning
+pub mod PoolKeeping
+pub mod Opening
+pub mod Closing
+pub mod Dealing
+pub mod Completions
+pub mod Seats
+pub mod PoolLaws
+pub mod Debts

@@ -1,0 +1,8 @@
+use Rattle.std.proofs.Common.{◌≡◌}
+use Rattle.turn_board.proofs.board.Board.take_turn.Given as goal
+
+abbrev pub invariant-loop : goal.invariant-loop
+invariant-loop g l = record {
+  board : l.token.table_id ≡ l.fn.token.table_id;
+  same : l.token.me ≡ l.fn.token.me;
+}

@@ -1,0 +1,10 @@
+pub mod Sums
+pub mod Pools
+pub mod PoolFields
+pub mod Views
+pub mod Rule
+pub mod Plays
+pub mod PoolPlays
+pub mod Tokens
+pub mod Boards
+pub mod Sample
