@@ -16,4 +16,7 @@ pub mod ReachLemmas
 pub mod HopLemmas
 pub mod CountLemmas
 pub mod ModuleLemmas
+pub mod SharedLemmas
+pub mod PermutationLemmas
+pub mod TupleCounts
 mod WorkedKeys

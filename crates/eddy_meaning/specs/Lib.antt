@@ -10,3 +10,4 @@ pub mod Kept
 pub mod Chased
 pub mod Act
 pub mod Hops
+pub mod Shared

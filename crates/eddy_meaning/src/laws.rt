@@ -1,5 +1,5 @@
 //! The laws of what a tuple owes, as contracts of functions that do nothing.
-ghost use Rattle.std.specs.Prelude.{◌≡◌, ◌≢◌, ℕ, ◌+◌, ◌<◌, ◌≤◌, ◌++◌, Option, List, Some, None, [], ◌∷◌, true, false, length, take, slice_get, slice_set, slice_index, All};
+ghost use Rattle.std.specs.Prelude.{◌≡◌, ◌≢◌, ℕ, ◌+◌, ◌*◌, ◌<◌, ◌≤◌, ◌++◌, Option, List, Some, None, [], ◌∷◌, true, false, cond, nat_lt, length, take, slice_get, slice_set, slice_index, All};
 ghost use Rattle.std.specs.List.{flat_map};
 ghost use Rattle.std.specs.List.Sorted.{IsPermutation};
 ghost use Rattle.sq_value.specs.Rank.{Rank};
@@ -24,6 +24,7 @@ ghost use Rattle.eddy_meaning.specs.Faithful.{IsSound, IsFaithful, StandsAt, is_
 ghost use Rattle.eddy_meaning.specs.Route.{IsLegal, AsksFor, came, log_after};
 ghost use Rattle.eddy_meaning.specs.Keys.{Mark, IsMarked};
 ghost use Rattle.eddy_meaning.specs.Act.{RouteFacts};
+ghost use Rattle.eddy_meaning.specs.Shared.{block_log, place_in};
 ghost use Rattle.eddy_meaning.specs.Hops.{HasHops, hop_bound};
 
 use crate::entry::Entry;
@@ -105,4 +106,22 @@ pub fn module_laws()
         → rows_before stamp (entries_of alias log) ≡ rows_built alias (take stamp log) }
     ensures seen { (seen now : List Entry) (bound stamp : ℕ) → GoesOn seen bound now → stamp ≤ bound
         → rows_before stamp now ≡ rows_before stamp seen }
+{}
+
+/// The laws of the log that a block gets from a shared one, in which entries are rows of tables. It
+/// does nothing.
+///
+/// No entry stands in it twice (`once`). Before the place of an alias's entry an alias has the rows
+/// of its table up to the shared entry, and that row too where its number is lower (`rows`). The
+/// test of stamps `12 p + a` is that of the shared stamps p, or of `p + 1` where the other alias is
+/// lower (`stamps`).
+pub fn shared_laws()
+    ensures once { (uses : List ℕ) (shared : List Built) → HasNoRepeat shared → HasNoRepeat (block_log uses shared) }
+    ensures rows { (uses : List ℕ) (front back : List Built) (e : Built) (a b : ℕ)
+        → a ≤ length uses → b < length uses
+        → rows_built b (take (place_in uses front e.alias a) (block_log uses (front ++ e ∷ back)))
+        ≡ rows_built (slice_index uses b)
+        (take (cond (nat_lt b a) (length front + 1) (length front)) (front ++ e ∷ back)) }
+    ensures stamps { (p q a b : ℕ) → a < 12 → b < 12
+        → nat_lt (12 * q + b) (12 * p + a) ≡ nat_lt q (cond (nat_lt b a) (p + 1) p) }
 {}

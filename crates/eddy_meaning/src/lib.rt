@@ -10,4 +10,4 @@ mod entry;
 mod laws;
 
 pub use entry::Entry;
-pub use laws::{module_laws, owed_laws, route_laws};
+pub use laws::{module_laws, owed_laws, route_laws, shared_laws};

@@ -5,16 +5,14 @@ pub mod JustifiedLemmas
 pub mod ReachedLemmas
 pub mod WorkerLemmas
 pub mod PoolLemmas
-pub mod PermutationLemmas
 pub mod AnswerLemmas
 pub mod CloseLemmas
-pub mod SharedLemmas
 pub mod ToldLemmas
 pub mod ClosingLemmas
 pub mod FollowLemmas
 pub mod FollowedLemmas
 pub mod FollowedEnd
 pub mod AccountLemmas
-pub mod TupleCounts
+pub mod ClosingTold
 mod WorkedScans
 mod WorkedLookUps

@@ -9,4 +9,3 @@ pub mod View
 pub mod Answers
 pub mod Accounts
 pub mod Close
-pub mod Shared

@@ -1,5 +1,5 @@
 //! The laws of runs, as contracts of functions that do nothing.
-ghost use Rattle.std.specs.Prelude.{◌≡◌, ℕ, ◌+◌, ◌*◌, ◌<◌, ◌≤◌, ◌++◌, Option, List, Some, [], ◌∷◌, true, cond, nat_lt, length, take, slice_get, slice_index};
+ghost use Rattle.std.specs.Prelude.{◌≡◌, ℕ, ◌<◌, Option, List, Some, true, length, slice_get};
 ghost use Rattle.std.specs.List.Sorted.{IsPermutation};
 ghost use Rattle.sq_value.specs.Relation.{Relation};
 ghost use Rattle.sq_value.specs.declared.value.Value.{Value};
@@ -9,19 +9,16 @@ ghost use Rattle.sq_expr.specs.Fits.{IsFit};
 ghost use Rattle.sq_expr.specs.declared.block.AliasUse.{AliasUse};
 ghost use Rattle.sq_expr.specs.declared.block.Block.{Block};
 ghost use Rattle.bag_meaning.specs.declared.combo.Built.{Built};
-ghost use Rattle.eddy_meaning.specs.Log.{HasNoRepeat, rows_built};
 ghost use Rattle.eddy_meaning.specs.Owed.{all_credits};
 ghost use Rattle.eddy_runs.specs.declared.event.Event.{Event};
-ghost use Rattle.eddy_runs.specs.State.{State, IsStep, IsRun, IsKeeping, HasEnded, empty_state};
-ghost use Rattle.eddy_runs.specs.Justified.{IsAnswering};
+ghost use Rattle.eddy_runs.specs.State.{State, IsStep, IsRun, HasEnded, empty_state};
 ghost use Rattle.eddy_runs.specs.Reached.{IsReached};
 ghost use Rattle.eddy_runs.specs.Complete.{IsBagOf};
 ghost use Rattle.eddy_runs.specs.Told.{Told, IsToldRun, most_hops};
 ghost use Rattle.eddy_runs.specs.Recorded.{IsRecorded, marks_of};
 ghost use Rattle.eddy_runs.specs.Followed.{IsFollowed};
 ghost use Rattle.eddy_meaning.specs.Keys.{Mark};
-ghost use Rattle.eddy_runs.specs.Close.{Seat, PoolMove, HaveClosed, HaveEnded, HaveAnswered, results_of, most_of};
-ghost use Rattle.eddy_runs.specs.Shared.{block_log, place_in};
+ghost use Rattle.eddy_runs.specs.Close.{Seat, PoolMove, HaveClosed, HaveEnded, HaveAnswered, HaveTold, results_of, most_of, all_told};
 
 /// The laws of the core's runs. It does nothing.
 ///
@@ -63,7 +60,8 @@ pub fn run_laws()
 /// The results of all workers together are what the log is credited with (`credits`). Where each
 /// row came to some worker, they are the bag in another order (`bag`). Where the workers answer for
 /// their keys too and counted their hops, their results, the log, the marked keys and the most hops
-/// are an answer as it must be (`recorded`).
+/// are an answer as it must be (`recorded`), and where each has its account of what it was told, all
+/// that was told accounts for each arrival, entry, key and result (`followed`).
 pub fn close_laws()
     ensures credits { (gives : ℕ → Value → Value → Truth) (block : Block) (tables : List Relation)
         → (seats : List Seat) (log : List Built) (marks : List Mark) (moves : List PoolMove)
@@ -82,22 +80,9 @@ pub fn close_laws()
         → 0 < length seats → HaveEnded gives block tables seats log marks moves
         → HaveAnswered gives block tables seats marks
         → IsRecorded gives block tables (results_of seats) log marks (most_of seats) }
-{}
-
-/// The laws of the log that a block gets from a shared one, in which entries are rows of tables. It
-/// does nothing.
-///
-/// No entry stands in it twice (`once`). Before the place of an alias's entry an alias has the rows
-/// of its table up to the shared entry, and that row too where its number is lower (`rows`). The
-/// test of stamps `12 p + a` is that of the shared stamps p, or of `p + 1` where the other alias is
-/// lower (`stamps`).
-pub fn shared_laws()
-    ensures once { (uses : List ℕ) (shared : List Built) → HasNoRepeat shared → HasNoRepeat (block_log uses shared) }
-    ensures rows { (uses : List ℕ) (front back : List Built) (e : Built) (a b : ℕ)
-        → a ≤ length uses → b < length uses
-        → rows_built b (take (place_in uses front e.alias a) (block_log uses (front ++ e ∷ back)))
-        ≡ rows_built (slice_index uses b)
-        (take (cond (nat_lt b a) (length front + 1) (length front)) (front ++ e ∷ back)) }
-    ensures stamps { (p q a b : ℕ) → a < 12 → b < 12
-        → nat_lt (12 * q + b) (12 * p + a) ≡ nat_lt q (cond (nat_lt b a) (p + 1) p) }
+    ensures followed { (gives : ℕ → Value → Value → Truth) (block : Block) (tables : List Relation)
+        → (seats : List Seat) (log : List Built) (marks : List Mark) (moves : List PoolMove)
+        → (tolds : List (List Told)) → HaveClosed gives block tables seats log marks moves
+        → HaveAnswered gives block tables seats marks → HaveTold gives block tables seats marks tolds
+        → IsFollowed gives block tables (results_of seats) log marks (most_of seats) (all_told tolds) }
 {}

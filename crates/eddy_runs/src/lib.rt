@@ -9,4 +9,4 @@ mod event;
 mod laws;
 
 pub use event::Event;
-pub use laws::{close_laws, run_laws, shared_laws};
+pub use laws::{close_laws, run_laws};

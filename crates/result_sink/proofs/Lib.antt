@@ -2,3 +2,4 @@ pub mod TextLemmas
 mod DecimalLaws
 mod KeyLaws
 mod OrderLaws
+pub mod SampleLaws

@@ -1,4 +1,4 @@
--- Values that can be written.
+-- Serves proofs: values that can be written.
 use Rattle.std.specs.Prelude.{◌≤◌, ⊤}
 use Rattle.sq_value.specs.declared.value.Value.{Value}
 use Rattle.sq_value.specs.declared.value.Value.TheVariants as value

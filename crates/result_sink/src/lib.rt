@@ -6,6 +6,8 @@ mod fault;
 mod field;
 mod ordering;
 mod record;
+#[cfg(test)]
+mod tests;
 mod writing;
 
 pub use fault::WriteFault;

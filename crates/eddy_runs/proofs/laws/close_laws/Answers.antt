@@ -3,6 +3,7 @@ use Rattle.eddy_runs.specs.Close.{Seat}
 use Rattle.std.specs.List.{flat_map}
 use Rattle.eddy_runs.proofs.CloseLemmas.{results_are_credits, workers_complete}
 use Rattle.eddy_runs.proofs.ClosingLemmas.{workers_recorded}
+use Rattle.eddy_runs.proofs.ClosingTold.{workers_followed}
 use Rattle.eddy_runs.proofs.EndLemmas.{results_are_bag}
 use Rattle.eddy_runs.proofs.laws.close_laws.Goals as goal
 
@@ -12,4 +13,5 @@ returns c = record {
   bag = λ gives kinds block tables fits alias u used scan seats log marks moves ended.
       results_are_bag gives kinds block tables fits (IsMarked marks) log (flat_map (λ (seat : Seat). seat.results) seats) (workers_complete gives block tables seats log marks moves ended) alias u used scan;
   recorded = workers_recorded;
+  followed = workers_followed;
 }

@@ -10,7 +10,7 @@ use Rattle.bag_meaning.specs.Credit.{is_built}
 use Rattle.bag_meaning.specs.declared.combo.Built.{Built}
 use Rattle.bag_meaning.proofs.CreditLemmas.{is_built-append}
 use Rattle.eddy_meaning.specs.Log.{HasNoRepeat, rows_built}
-use Rattle.eddy_runs.specs.Shared.{aliases_using, pairs_of, block_log, place_in}
+use Rattle.eddy_meaning.specs.Shared.{aliases_using, pairs_of, block_log, place_in}
 use Rattle.eddy_meaning.proofs.LogLemmas.{is_built-rows}
 
 abbrev pub mk : ℕ → List ℕ → List Built
