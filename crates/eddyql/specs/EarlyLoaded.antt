@@ -1,4 +1,4 @@
--- For proofs, and not for long: what is loaded: why a load refuses, and what holds of every table that was read.
+-- Serves proofs, and not for long: what is loaded: why a load refuses, and what holds of every table that was read.
 use Rattle.std.specs.Prelude.{◌≡◌, ◌⊎◌, ℕ, List, [], ◌∷◌, ◌++◌, Option, Some, Ok, All}
 use Rattle.outside.specs.Files.{File, Lacks}
 use Rattle.sq_value.specs.Relation.{Relation}

@@ -1,4 +1,4 @@
--- For proofs, and not for long: what a reader of a table's file has yet to give, and the table that its rows fill.
+-- Serves proofs, and not for long: what a reader of a table's file has yet to give, and the table that its rows fill.
 use Rattle.std.specs.Prelude.{◌≡◌, ℕ, ◌+◌, Bool, true, false, ◌&&◌, nat_le, List, [], ◌∷◌, ◌++◌, length, map, Option, Some, None, IsSome, All, if◌then◌else◌}
 use Rattle.std.specs.Borrow.{Bor}
 use Rattle.std.specs.List.{list_all}

@@ -1,4 +1,4 @@
--- For proofs, and not for long: what the engine and the writer ask of a block.
+-- Serves proofs, and not for long: what the engine and the writer ask of a block.
 use Rattle.std.specs.Prelude.{◌≡◌, List, [], All}
 use Rattle.sq_value.specs.Relation.{Relation}
 use Rattle.sq_expr.specs.declared.block.Block.{Block}

@@ -1,4 +1,4 @@
--- For proofs, and not for long: the program's tokens and joins, as the definitions of a script see them.
+-- Serves proofs, and not for long: the program's tokens and joins, as the definitions of a script see them.
 use Rattle.std.specs.Prelude.{ℕ, List}
 use Rattle.std.specs.Borrow.{Bor}
 use Rattle.eddyql.specs.EarlyScript as spec

@@ -1,4 +1,4 @@
--- For the proofs of the program alone, but `UnlessReadOrMemory`: when a step may refuse, beside its definition.
+-- Serves proofs, but for `UnlessReadOrMemory`: when a step may refuse, beside its definition.
 use Rattle.std.specs.Prelude.{◌≡◌, ◌≢◌, Result, Err, MatchOption, ⊤}
 use Rattle.sq_parse.specs.declared.parser.ParseFault.TheVariants as parser
 use Rattle.eddyql.specs.Stage.{stage_of, file_unread}

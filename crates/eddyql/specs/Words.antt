@@ -69,4 +69,5 @@ checked_tables tables =
 unfoldable pub command : List (List ℕ) → Option Command
 command [] = None
 command (script ∷ words) =
-    option_map (λ tables. record { script = script; tables = tables }) (option_and_then checked_tables (tables_of_words words))
+    option_map (λ tables. record { script = script; tables = tables }) (option_and_then checked_tables
+    (tables_of_words words))

@@ -1,4 +1,4 @@
--- For the proofs of the program alone: when an answer can be written: its columns and rows are in range.
+-- Serves proofs: when an answer can be written: its columns and rows are in range.
 use Rattle.std.specs.Prelude.{◌≡◌, ℕ, ◌<◌, ◌≤◌, List, length, take, Some, slice_get, slice_index}
 use Rattle.csv.specs.Writing.{row_text, default_writer}
 use Rattle.sq_value.specs.Relation.{Relation}
@@ -19,7 +19,8 @@ pub record IsOutput (block : Block) (tables : List Relation) (column : OutCol) :
 -- each alias has a row of its table
 abbrev pub HasRows : Block → List Relation → List ℕ → Type 0
 HasRows block tables rows =
-    (alias : ℕ) → alias < length block.aliases → slice_index rows alias < row_count tables (slice_index (uses_of block) alias)
+    (alias : ℕ) → alias < length block.aliases → slice_index rows alias < row_count tables (slice_index
+    (uses_of block) alias)
 
 -- the row of each alias of a combination
 abbrev pub rows_of_combo : Block → Combo → List ℕ

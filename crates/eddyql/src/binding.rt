@@ -124,7 +124,8 @@ fn block_with(
     requires left { left < length tables.now }
     requires right { right < length tables.now }
     ensures { IfOk result (λ block. (query : JoinQuery) → query.left ≡ left → query.right ≡ right
-        → block ≡ spec.block_with query (columns_at tables.now left) (columns_at tables.now right) left_column right_column) }
+        → block ≡ spec.block_with query (columns_at tables.now left)
+        (columns_at tables.now right) left_column right_column) }
 {
     let aliases = aliases_of(alloc, left, right)?;
     let conjuncts = conjuncts_of(alloc, left_column, right_column)?;

@@ -36,7 +36,8 @@ pub fn load<F: Folder>(
     ensures kept { OnOk result (F.faults folder.new ≡ F.faults folder.old) }
     ensures refused_kept { IfErr result (λ s. UnlessReadOrMemory s (F.faults folder.new ≡ F.faults folder.old)) }
     ensures gives { IfOk result (λ bytes. Gives (F.holds folder.old) name.now 67108865 bytes.items) }
-    ensures refused { IfErr result (LoadRefused (F.holds folder.old) name.now file (Rose (F.faults folder.old) (F.faults folder.new))) }
+    ensures refused { IfErr result (LoadRefused (F.holds folder.old) name.now file (Rose (F.faults folder.old)
+        (F.faults folder.new))) }
 {
     match folder.load(alloc, name, LIMIT) {
         Ok(bytes) => Ok(bytes),
@@ -49,7 +50,8 @@ pub fn load<F: Folder>(
 // Reads the bytes of a table.
 fn table_of(alloc: Global, bytes: &[u8], number: u32) -> Result<Table, Status>
     ensures ok { IfOk result (λ table. early_table bytes.now ≡ Some table) }
-    ensures refused { IfErr result (MayRefuse never (or_refuse (status.BadTable number fault.NoHeading) (early_table bytes.now))) }
+    ensures refused { IfErr result (MayRefuse never (or_refuse (status.BadTable number fault.NoHeading)
+        (early_table bytes.now))) }
     ensures early { IfErr result (IsEarly ⊥) }
 {
     match read_table(alloc, bytes) {
@@ -77,8 +79,10 @@ fn load_table<F: Folder>(
         → table_read number files (table_of_word word.now) ≡ Ok table) }
     ensures integers { IfOk result IsIntegerTable }
     ensures refused { IfErr result (λ s. (files : List File) → F.holds folder.old ≡ Some files
-        → MayRefuse (λ f. Rose (F.faults folder.old) (F.faults folder.new) × (f ≡ file.Table number)) (table_read number files (table_of_word word.now)) s) }
-    ensures read { IfErr result (λ s. (f : FileOf) → s ≡ status.Read f → Rose (F.faults folder.old) (F.faults folder.new)) }
+        → MayRefuse (λ f. Rose (F.faults folder.old) (F.faults folder.new)
+        × (f ≡ file.Table number)) (table_read number files (table_of_word word.now)) s) }
+    ensures read { IfErr result (λ s. (f : FileOf) → s ≡ status.Read f
+        → Rose (F.faults folder.old) (F.faults folder.new)) }
     ensures early { IfErr result (IsEarly (IsSome (F.holds folder.old))) }
 {
     match load(alloc, folder, file_of(word), FileOf::Table(number)) {
@@ -102,8 +106,10 @@ fn push_table<F: Folder>(
     ensures refused_kept { IfErr result (λ s. UnlessReadOrMemory s (F.faults folder.new ≡ F.faults folder.old)) }
     ensures added { OnOk result (AddsTable (F.holds folder.old) number word.now tables.old tables.new) }
     ensures refused { IfErr result (λ s. (files : List File) → F.holds folder.old ≡ Some files
-        → MayRefuse (λ f. Rose (F.faults folder.old) (F.faults folder.new) × (f ≡ file.Table number)) (table_read number files (table_of_word word.now)) s) }
-    ensures read { IfErr result (λ s. (f : FileOf) → s ≡ status.Read f → Rose (F.faults folder.old) (F.faults folder.new)) }
+        → MayRefuse (λ f. Rose (F.faults folder.old) (F.faults folder.new)
+        × (f ≡ file.Table number)) (table_read number files (table_of_word word.now)) s) }
+    ensures read { IfErr result (λ s. (f : FileOf) → s ≡ status.Read f
+        → Rose (F.faults folder.old) (F.faults folder.new)) }
     ensures early { IfErr result (IsEarly (IsSome (F.holds folder.old))) }
 {
     let table = load_table(alloc, folder, word, number)?;
@@ -129,9 +135,11 @@ pub fn load_tables<F: Folder>(
     ensures told { IfOk result (λ tables. (files : List File) → F.holds folder.old ≡ Some files
         → tables_read 0 files (map table_of_word (map string_bytes words.now)) ≡ Ok tables) }
     ensures refused { IfErr result (λ s. (files : List File) → F.holds folder.old ≡ Some files
-        → MayRefuse (λ f. Rose (F.faults folder.old) (F.faults folder.new) × ReachedTable files (map table_of_word (map string_bytes words.now)) f)
+        → MayRefuse (λ f. Rose (F.faults folder.old) (F.faults folder.new)
+        × ReachedTable files (map table_of_word (map string_bytes words.now)) f)
         (tables_read 0 files (map table_of_word (map string_bytes words.now))) s) }
-    ensures read { IfErr result (λ s. (f : FileOf) → s ≡ status.Read f → Rose (F.faults folder.old) (F.faults folder.new)) }
+    ensures read { IfErr result (λ s. (f : FileOf) → s ≡ status.Read f
+        → Rose (F.faults folder.old) (F.faults folder.new)) }
     ensures early { IfErr result (IsEarly (IsSome (F.holds folder.old))) }
 {
     let mut tables = Tables::new(alloc);

@@ -54,7 +54,8 @@ fn refusal_of(fault: ParseFault) -> Status
 fn check_script(alloc: Global, text: &[u8]) -> Result<(), Status>
     requires { length text.now ≤ 67108864 }
     ensures ok { IfOk result (λ done. (read : Result Script ParseFault) → ReadsAs text.now read → IsOk read) }
-    ensures refused { IfErr result (λ s. (read : Result Script ParseFault) → ReadsAs text.now read → MayRefuse never (text_spec.or_fault read) s) }
+    ensures refused { IfErr result (λ s. (read : Result Script ParseFault) → ReadsAs text.now read
+        → MayRefuse never (text_spec.or_fault read) s) }
     ensures unread { IfErr result (λ s. file_unread s ≡ None) }
     ensures early { IfErr result (IsEarly ⊥) }
 {
@@ -66,10 +67,12 @@ fn check_script(alloc: Global, text: &[u8]) -> Result<(), Status>
 
 // The join that a text in the early form asks for.
 fn early_join<'s>(alloc: Global, tables: &[String], text: &'s [u8]) -> Result<JoinQuery<'s>, Status>
-    ensures ok { IfOk result (λ query. early_script (map table_of_word (map string_bytes tables.now)) text.now ≡ Some (join_seen query)) }
+    ensures ok { IfOk result (λ query. early_script (map table_of_word (map string_bytes tables.now)) text.now
+        ≡ Some (join_seen query)) }
     ensures left { IfOk result (λ query. query.left < length tables.now) }
     ensures right { IfOk result (λ query. query.right < length tables.now) }
-    ensures refused { IfErr result (MayRefuse never (or_refuse (status.Script (Syntax 0)) (early_script (map table_of_word (map string_bytes tables.now)) text.now))) }
+    ensures refused { IfErr result (MayRefuse never (or_refuse (status.Script (Syntax 0)) (early_script
+        (map table_of_word (map string_bytes tables.now)) text.now))) }
     ensures unread { IfErr result (λ s. file_unread s ≡ None) }
     ensures early { IfErr result (IsEarly ⊥) }
 {
@@ -144,14 +147,18 @@ pub fn prepare<F: Folder>(
     ensures kept { OnOk result (F.faults folder.new ≡ F.faults folder.old) }
     ensures refused_kept { IfErr result (λ s. UnlessReadOrMemory s (F.faults folder.new ≡ F.faults folder.old)) }
     ensures told { IfOk result (λ plan. (files : List File) → F.holds folder.old ≡ Some files
-        → (read : Result Script ParseFault) → text_spec.ScriptReadsAs (command_of script.now (map string_bytes tables.now)) files read
+        → (read : Result Script ParseFault) → text_spec.ScriptReadsAs (command_of script.now
+        (map string_bytes tables.now)) files read
         → plan_of read (command_of script.now (map string_bytes tables.now)) files ≡ Ok plan) }
     ensures runnable { IfOk result (λ plan. IsRunnable plan.block plan.tables) }
     ensures refused { IfErr result (λ s. (files : List File) → F.holds folder.old ≡ Some files
-        → (read : Result Script ParseFault) → text_spec.ScriptReadsAs (command_of script.now (map string_bytes tables.now)) files read
-        → MayRefuse (λ f. Rose (F.faults folder.old) (F.faults folder.new) × Reached read (command_of script.now (map string_bytes tables.now)) files f)
+        → (read : Result Script ParseFault) → text_spec.ScriptReadsAs (command_of script.now
+        (map string_bytes tables.now)) files read
+        → MayRefuse (λ f. Rose (F.faults folder.old) (F.faults folder.new)
+        × Reached read (command_of script.now (map string_bytes tables.now)) files f)
         (plan_of read (command_of script.now (map string_bytes tables.now)) files) s) }
-    ensures read { IfErr result (λ s. (f : FileOf) → s ≡ status.Read f → Rose (F.faults folder.old) (F.faults folder.new)) }
+    ensures read { IfErr result (λ s. (f : FileOf) → s ≡ status.Read f
+        → Rose (F.faults folder.old) (F.faults folder.new)) }
     ensures early { IfErr result (IsEarly (IsSome (F.holds folder.old))) }
 {
     let text = load(alloc, folder, script, FileOf::Script)?;

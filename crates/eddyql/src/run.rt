@@ -93,17 +93,20 @@ pub fn run<F: Folder, O: Sink, N: Sink>(
     // Each status has its cause.
     ensures causes { (files : List File) → F.holds folder.old ≡ Some files
         → (due : Result (List ℕ) Status) → IsOutcome (map string_bytes words.now) files due
-        → MayEnd (λ file. Rose (F.faults folder.old) (F.faults folder.new) × ReachedBy (map string_bytes words.now) files file)
+        → MayEnd (λ file. Rose (F.faults folder.old) (F.faults folder.new)
+        × ReachedBy (map string_bytes words.now) files file)
         (Rose (O.faults out.old) (O.faults out.new)) due result }
     ensures usage_only { result ≡ Status.Usage → command (map string_bytes words.now) ≡ None }
     ensures usage { command (map string_bytes words.now) ≡ None → result ≡ Status.Usage }
     ensures kept { UnlessReadOrMemory result (F.faults folder.new ≡ F.faults folder.old) }
     ensures untouched { command (map string_bytes words.now) ≡ None → folder.new ≡ folder.old }
     ensures syntax { (files : List File) → F.holds folder.old ≡ Some files → (text : List ℕ) (fault : ParseFault)
-        → HasScript (map string_bytes words.now) files text → IsFault text fault → ¬ (Rose (F.faults folder.old) (F.faults folder.new))
+        → HasScript (map string_bytes words.now) files text → IsFault text fault
+        → ¬ (Rose (F.faults folder.old) (F.faults folder.new))
         → (result ≡ Status.Script fault) ⊎ (result ≡ Status.Memory) }
     ensures syntax_only { (files : List File) → F.holds folder.old ≡ Some files → (text : List ℕ) (fault : ParseFault)
-        → (script : HasScript (map string_bytes words.now) files text) → result ≡ Status.Script fault → RefusesScript script.asked.tables text fault }
+        → (script : HasScript (map string_bytes words.now) files text) → result ≡ Status.Script fault
+        → RefusesScript script.asked.tables text fault }
     ensures no_memory { result ≡ Status.Script parser.Memory → ⊥ }
     ensures read { (file : FileOf) → result ≡ Status.Read file → Rose (F.faults folder.old) (F.faults folder.new) }
     ensures write { result ≡ Status.Write → Rose (O.faults out.old) (O.faults out.new) }

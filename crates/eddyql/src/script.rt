@@ -110,9 +110,12 @@ fn table_place(tables: &[String], name: &str) -> Option<usize>
 // Whether there are as many tokens as the form has, and the first are `SELECT * FROM a , b WHERE`.
 fn begins_join(tokens: &[Token]) -> bool
     ensures { result ≡ (length tokens.now == 14)
-        && spec.is_word (codes "SELECT") (slice_get (map token_seen tokens.now) 0) && spec.is_mark 42 (slice_get (map token_seen tokens.now) 1)
-        && spec.is_word (codes "FROM") (slice_get (map token_seen tokens.now) 2) && spec.is_name (slice_get (map token_seen tokens.now) 3)
-        && spec.is_mark 44 (slice_get (map token_seen tokens.now) 4) && spec.is_name (slice_get (map token_seen tokens.now) 5)
+        && spec.is_word (codes "SELECT") (slice_get (map token_seen tokens.now) 0) && spec.is_mark 42 (slice_get
+        (map token_seen tokens.now) 1)
+        && spec.is_word (codes "FROM") (slice_get (map token_seen tokens.now) 2) && spec.is_name (slice_get
+        (map token_seen tokens.now) 3)
+        && spec.is_mark 44 (slice_get (map token_seen tokens.now) 4) && spec.is_name (slice_get
+        (map token_seen tokens.now) 5)
         && spec.is_word (codes "WHERE") (slice_get (map token_seen tokens.now) 6) }
 {
     tokens.len() == 14
@@ -127,9 +130,12 @@ fn begins_join(tokens: &[Token]) -> bool
 
 // Whether the tokens behind these are `a . c = b . d`.
 fn compares_columns(tokens: &[Token]) -> bool
-    ensures { result ≡ spec.is_name (slice_get (map token_seen tokens.now) 7) && spec.is_mark 46 (slice_get (map token_seen tokens.now) 8)
-        && spec.is_name (slice_get (map token_seen tokens.now) 9) && spec.is_mark 61 (slice_get (map token_seen tokens.now) 10)
-        && spec.is_name (slice_get (map token_seen tokens.now) 11) && spec.is_mark 46 (slice_get (map token_seen tokens.now) 12)
+    ensures { result ≡ spec.is_name (slice_get (map token_seen tokens.now) 7) && spec.is_mark 46 (slice_get
+        (map token_seen tokens.now) 8)
+        && spec.is_name (slice_get (map token_seen tokens.now) 9) && spec.is_mark 61 (slice_get
+        (map token_seen tokens.now) 10)
+        && spec.is_name (slice_get (map token_seen tokens.now) 11) && spec.is_mark 46 (slice_get
+        (map token_seen tokens.now) 12)
         && spec.is_name (slice_get (map token_seen tokens.now) 13) }
 {
     is_name(tokens, 7)
@@ -145,7 +151,8 @@ fn compares_columns(tokens: &[Token]) -> bool
 fn are_same(tokens: &[Token], first: usize, second: usize) -> bool
     requires first { IsTrue (spec.is_name (slice_get (map token_seen tokens.now) first)) }
     requires second { IsTrue (spec.is_name (slice_get (map token_seen tokens.now) second)) }
-    ensures { result ≡ is_same_name (spec.word_of (slice_get (map token_seen tokens.now) first)) (spec.word_of (slice_get (map token_seen tokens.now) second)) }
+    ensures { result ≡ is_same_name (spec.word_of (slice_get (map token_seen tokens.now) first)) (spec.word_of
+        (slice_get (map token_seen tokens.now) second)) }
 {
     same_name(name_at(tokens, first), name_at(tokens, second))
 }
@@ -167,7 +174,8 @@ fn is_text(text: &[u8]) -> bool
 }
 
 fn join_of_tokens<'s>(tables: &[String], tokens: &[Token<'s>]) -> Option<JoinQuery<'s>>
-    ensures { option_map join_seen result ≡ spec.join_of_tokens (map table_of_word (map string_bytes tables.now)) (map token_seen tokens.now) }
+    ensures { option_map join_seen result ≡ spec.join_of_tokens (map table_of_word (map string_bytes tables.now))
+        (map token_seen tokens.now) }
 {
     if !is_join_form(tokens) {
         return None;
@@ -198,7 +206,8 @@ pub fn read_script<'s>(
     tables: &[String],
     text: &'s [u8],
 ) -> Result<Option<JoinQuery<'s>>, Memory>
-    ensures { IfOk result (λ o. option_map join_seen o ≡ spec.early_script (map table_of_word (map string_bytes tables.now)) text.now) }
+    ensures { IfOk result (λ o. option_map join_seen o ≡ spec.early_script (map table_of_word
+        (map string_bytes tables.now)) text.now) }
 {
     if !is_text(text) {
         return Ok(None);

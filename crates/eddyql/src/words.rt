@@ -98,7 +98,8 @@ fn names_differ(words: &[String]) -> bool
 
 // Whether these words are 1 to 16 tables whose names differ.
 fn are_tables(words: &[String]) -> bool
-    ensures { result ≡ is_some (option_and_then spec.checked_tables (spec.tables_of_words (map string_bytes words.now))) }
+    ensures { result ≡ is_some (option_and_then spec.checked_tables (spec.tables_of_words
+        (map string_bytes words.now))) }
 {
     if words.is_empty() || words.len() > MAX_TABLES {
         return false;

@@ -138,7 +138,8 @@ fn record_line(
 ) -> Result<(), Memory>
     requires output { All (IsOutput block.now tables.now) block.now.output }
     requires rows { HasRows block.now tables.now (rows_of_combo block.now combo.now) }
-    ensures { OnOk result (line.new.items ≡ row_text default_writer (row_fields block.now tables.now (rows_of_combo block.now combo.now))) }
+    ensures { OnOk result (line.new.items ≡ row_text default_writer (row_fields block.now tables.now
+        (rows_of_combo block.now combo.now))) }
 {
     line.clear();
     for (index, column) in block.output.as_slice().iter().enumerate() {
@@ -172,9 +173,11 @@ fn put_line<O: Sink>(line: &[u8], out: &mut O) -> Result<(), WriteFault>
 // One put with the heading.
 fn put_heading<O: Sink>(line: &mut Vec<u8>, block: &Block, out: &mut O) -> Result<(), WriteFault>
     ensures counts { NeverFalls (O.faults out.old) (O.faults out.new) }
-    ensures ok { OnOk result (Adds (O.written out.old) (O.written out.new) (row_text default_writer (heading_fields block.now))) }
+    ensures ok { OnOk result (Adds (O.written out.old) (O.written out.new) (row_text default_writer
+        (heading_fields block.now))) }
     ensures failed { result ≡ Err WriteFault.Failed → Rose (O.faults out.old) (O.faults out.new) }
-    ensures front { OnErr result (AddsFront (O.written out.old) (O.written out.new) (row_text default_writer (heading_fields block.now))) }
+    ensures front { OnErr result (AddsFront (O.written out.old) (O.written out.new) (row_text default_writer
+        (heading_fields block.now))) }
 {
     if heading_line(line, block).is_err() {
         return Err(WriteFault::Memory);
@@ -193,9 +196,11 @@ fn put_record<O: Sink>(
     requires output { All (IsOutput block.now tables.now) block.now.output }
     requires rows { HasRows block.now tables.now (rows_of_combo block.now combo.now) }
     ensures counts { NeverFalls (O.faults out.old) (O.faults out.new) }
-    ensures ok { OnOk result (Adds (O.written out.old) (O.written out.new) (record_text block.now tables.now combo.now)) }
+    ensures ok { OnOk result (Adds (O.written out.old) (O.written out.new)
+        (record_text block.now tables.now combo.now)) }
     ensures failed { result ≡ Err WriteFault.Failed → Rose (O.faults out.old) (O.faults out.new) }
-    ensures front { OnErr result (AddsFront (O.written out.old) (O.written out.new) (record_text block.now tables.now combo.now)) }
+    ensures front { OnErr result (AddsFront (O.written out.old) (O.written out.new)
+        (record_text block.now tables.now combo.now)) }
 {
     if record_line(line, block, tables, combo).is_err() {
         return Err(WriteFault::Memory);
@@ -214,9 +219,11 @@ fn put_records<O: Sink>(
     requires output { All (IsOutput block.now tables.now) block.now.output }
     requires rows { All (λ combo. HasRows block.now tables.now (rows_of_combo block.now combo)) combos.now }
     ensures counts { NeverFalls (O.faults out.old) (O.faults out.new) }
-    ensures ok { OnOk result (Adds (O.written out.old) (O.written out.new) (flat_map (record_text block.now tables.now) combos.now)) }
+    ensures ok { OnOk result (Adds (O.written out.old) (O.written out.new) (flat_map
+        (record_text block.now tables.now) combos.now)) }
     ensures failed { result ≡ Err WriteFault.Failed → Rose (O.faults out.old) (O.faults out.new) }
-    ensures front { OnErr result (AddsFront (O.written out.old) (O.written out.new) (flat_map (record_text block.now tables.now) combos.now)) }
+    ensures front { OnErr result (AddsFront (O.written out.old) (O.written out.new) (flat_map
+        (record_text block.now tables.now) combos.now)) }
 {
     for combo in combos {
         put_record(line, block, tables, combo, out)?;
@@ -240,9 +247,11 @@ pub fn write_answer<O: Sink>(
     requires output { All (IsOutput block.now tables.now) block.now.output }
     requires rows { All (λ combo. HasRows block.now tables.now (rows_of_combo block.now combo)) combos.now }
     ensures counts { NeverFalls (O.faults out.old) (O.faults out.new) }
-    ensures ok { OnOk result (Adds (O.written out.old) (O.written out.new) (answer_text block.now tables.now (map (rows_of_combo block.now) combos.now))) }
+    ensures ok { OnOk result (Adds (O.written out.old) (O.written out.new) (answer_text block.now tables.now (map
+        (rows_of_combo block.now) combos.now))) }
     ensures failed { result ≡ Err WriteFault.Failed → Rose (O.faults out.old) (O.faults out.new) }
-    ensures front { OnErr result (AddsFront (O.written out.old) (O.written out.new) (answer_text block.now tables.now (map (rows_of_combo block.now) combos.now))) }
+    ensures front { OnErr result (AddsFront (O.written out.old) (O.written out.new)
+        (answer_text block.now tables.now (map (rows_of_combo block.now) combos.now))) }
 {
     let mut line = Vec::new(alloc);
     put_heading(&mut line, block, out)?;

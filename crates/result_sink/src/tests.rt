@@ -219,7 +219,9 @@ fn answers_are_written(rt: HostRuntime) -> Result<(), Fail> {
     let mut out = SureSink::with_room(alloc, 1000)?;
     write_answer(alloc, &block, &tables, &combos, &mut out)?;
     let text =
-        "x,x,x,x,\"y,\"\"z\"\"\"\n,a,-12.34,922337203685477.5807,\n1,\"two\nlines\r\",0.05,12.3456,-0.0001\n9223372036854775807,,,0.0000,1.2000\n-9223372036854775808,\"say \"\"a\"\"\",1.00,1.2000,\n,\"a,b\",-0.05,-0.0001,\n1,b,0.05,,0.0000\n";
+        "x,x,x,x,\"y,\"\"z\"\"\"\n,a,-12.34,922337203685477.5807,\n1,\"two\nlines\r\",0.05,12.3456,-0.0001\n\
+         9223372036854775807,,,0.0000,1.2000\n-9223372036854775808,\"say \"\"a\"\"\",1.00,1.2000,\n\
+         ,\"a,b\",-0.05,-0.0001,\n1,b,0.05,,0.0000\n";
     assert_eq!(rt; out.written(), text.as_bytes());
 
     let block = sample_block(alloc, &[(0, 1)], &[])?;

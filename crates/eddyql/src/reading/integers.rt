@@ -86,9 +86,13 @@ fn integer_values(alloc: Global, row: &ByteRecord) -> Result<Vec<Value>, ReadFau
 pub fn push_integers(alloc: Global, row: &ByteRecord, table: &mut Table) -> Result<(), ReadFault>
     requires integers { AllIntegers table.old.columns }
     requires room { length table.old.rows < 1000000 }
-    ensures ok { OnOk result (table.new ≡ record table.old { rows = table.old.rows ++ map integer_of (fields_of row.now) ∷ [] }) }
+    ensures ok { OnOk result (table.new ≡ record table.old {
+      rows = table.old.rows ++ map integer_of
+          (fields_of row.now) ∷ [];
+    }) }
     ensures fits { OnOk result (is_integer_row (length table.old.columns) (fields_of row.now) ≡ true) }
-    ensures form { result ≡ Err ReadFault.NotATable → is_integer_row (length table.old.columns) (fields_of row.now) ≡ false }
+    ensures form { result ≡ Err ReadFault.NotATable → is_integer_row (length table.old.columns) (fields_of row.now)
+        ≡ false }
 {
     if row.len() != table.columns().len() {
         return Err(ReadFault::NotATable);

@@ -20,7 +20,8 @@ const MOST_ROWS: u32 = 1_000_000;
 /// empty heading is set, since csv would else keep copies of the first record, however long.
 pub fn plain_reader(alloc: Global, bytes: &[u8]) -> Result<Reader<&[u8]>, ReadFault>
     ensures plain { IfOk result (λ r. IsPlain r) }
-    ensures records { begins_with_mark bytes.now ≡ false → IfOk result (λ r. records_left r ≡ records default_config bytes.now) }
+    ensures records { begins_with_mark bytes.now ≡ false → IfOk result
+        (λ r. records_left r ≡ records default_config bytes.now) }
     ensures memory { IfErr result (λ e. e ≡ ReadFault.Memory) }
 {
     let mut reader = ReaderBuilder::new()
@@ -44,7 +45,8 @@ fn fault_of(_error: &Error) -> ReadFault
 // The next record into `row`, and whether there was one.
 fn next_row(reader: &mut Reader<&[u8]>, row: &mut ByteRecord) -> Result<bool, ReadFault>
     requires { IsPlain reader.old }
-    ensures gives { IfOk result (λ found. GivesNext (records_left reader.old) found (fields_of row.new) (records_left reader.new)) }
+    ensures gives { IfOk result (λ found. GivesNext (records_left reader.old) found (fields_of row.new)
+        (records_left reader.new)) }
     ensures plain { OnOk result (IsPlain reader.new) }
     ensures memory { IfErr result (λ e. e ≡ ReadFault.Memory) }
 {
