@@ -40,9 +40,11 @@ value_of type field = if is_null_field field then value.Null else written_value 
 
 -- why a field which isn't empty writes no value of the column's type
 abbrev pub number_fault : ℕ → ℕ → ColType → List ℕ → Option TableFault
-number_fault rec number kind.Integer field = if is_ok (number_read field) then None else Some (fault.BadInteger rec number)
+number_fault rec number kind.Integer field =
+    if is_ok (number_read field) then None else Some (fault.BadInteger rec number)
 number_fault rec number kind.Text field = None
-number_fault rec number (kind.Decimal scale) field = if is_ok (decimal_read scale field) then None else Some (fault.BadDecimal rec number)
+number_fault rec number (kind.Decimal scale) field =
+    if is_ok (decimal_read scale field) then None else Some (fault.BadDecimal rec number)
 
 -- the fault of a field, by the numbers of its record and of the field
 abbrev pub field_fault : ℕ → ℕ → ColType → List ℕ → Option TableFault
@@ -66,7 +68,8 @@ values_of (c ∷ cs) (f ∷ fs) = value_of c.kind f ∷ values_of cs fs
 unfoldable pub fields_fault : ℕ → ℕ → List Column → List (List ℕ) → Option TableFault
 fields_fault rec number [] fields = None
 fields_fault rec number (c ∷ cs) [] = None
-fields_fault rec number (c ∷ cs) (f ∷ fs) = first_of (field_fault rec number c.kind f) (fields_fault rec (number + 1) cs fs)
+fields_fault rec number (c ∷ cs) (f ∷ fs) =
+    first_of (field_fault rec number c.kind f) (fields_fault rec (number + 1) cs fs)
 
 -- the fault of a record with this number below a heading of these columns
 abbrev pub record_fault : ℕ → List Column → List (List ℕ) → Option TableFault
@@ -78,4 +81,5 @@ record_fault rec columns fields =
 -- the first fault of records, whose numbers go on from one
 unfoldable pub records_fault : ℕ → List Column → List (List (List ℕ)) → Option TableFault
 records_fault rec columns [] = None
-records_fault rec columns (fields ∷ more) = first_of (record_fault rec columns fields) (records_fault (rec + 1) columns more)
+records_fault rec columns (fields ∷ more) =
+    first_of (record_fault rec columns fields) (records_fault (rec + 1) columns more)

@@ -29,7 +29,8 @@ name_fault earlier number field =
 unfoldable pub heading_fault : List (List ℕ) → ℕ → List (List ℕ) → Option TableFault
 heading_fault earlier number [] = None
 heading_fault earlier number (field ∷ more) =
-    first_of (name_fault earlier number field) (heading_fault (earlier ++ column_name number field ∷ []) (number + 1) more)
+    first_of (name_fault earlier number field)
+    (heading_fault (earlier ++ column_name number field ∷ []) (number + 1) more)
 
 -- the text behind a minus
 abbrev pub without_minus : List ℕ → List ℕ
@@ -39,7 +40,8 @@ without_minus text = if starts_with_minus text then drop 1 text else text
 abbrev pub is_canonical_numeral : List ℕ → Bool
 is_canonical_numeral text =
     ((length text == 1) && (slice_index text 0 == 48))
-    || (nat_lt 0 (length (without_minus text)) && all_digits (without_minus text) && not (slice_index (without_minus text) 0 == 48))
+    || (nat_lt 0 (length (without_minus text)) && all_digits (without_minus text)
+    && not (slice_index (without_minus text) 0 == 48))
 
 -- whether a field is the canonical text of an integer of 64 bits
 abbrev pub is_canonical : List ℕ → Bool
@@ -52,7 +54,8 @@ column_fields place records = filter_map (λ fields. slice_get fields place) rec
 -- the type of a column without a mark, from all its fields
 abbrev pub type_of_fields : List (List ℕ) → ColType
 type_of_fields fields =
-    if list_any (λ field. not (is_null_field field)) fields && list_all (λ field. is_null_field field || is_canonical field) fields
+    if list_any (λ field. not (is_null_field field)) fields
+    && list_all (λ field. is_null_field field || is_canonical field) fields
     then kind.Integer else kind.Text
 
 -- the type of a heading's field at a place, counted from 0, over these records
@@ -64,4 +67,5 @@ type_of_column place field records None = type_of_fields (column_fields place re
 unfoldable pub columns_from : ℕ → List (List ℕ) → List (List (List ℕ)) → List Column
 columns_from place [] records = []
 columns_from place (field ∷ more) records =
-    record { name = column_name (place + 1) field; kind = type_of_column place field records (marked_kind field) } ∷ columns_from (place + 1) more records
+    record { name = column_name (place + 1) field; kind = type_of_column place field records (marked_kind field) }
+    ∷ columns_from (place + 1) more records

@@ -33,7 +33,8 @@ file_fault heading columns rows =
 -- the table of a heading and of the records below it, or the first fault
 abbrev pub table_below : List (List ℕ) → List (List (List ℕ)) → Result Relation TableFault
 table_below heading rows =
-    let columns = columns_from 0 heading rows in table_unless (file_fault heading columns rows) (table_of_columns columns rows)
+    let columns = columns_from 0 heading rows in
+    table_unless (file_fault heading columns rows) (table_of_columns columns rows)
 
 -- the table of records, the first of which is the heading, or the first fault; what has no field is no heading
 unfoldable pub table_of_records : List (List (List ℕ)) → Result Relation TableFault

@@ -26,7 +26,8 @@ names_of heads = map (λ (head : Named). head.name) heads
 -- what is known of a column's fields after one more
 abbrev pub learned : Seen → List ℕ → Seen
 learned seen.Other field = seen.Other
-learned seen.Nulls field = if is_null_field field then seen.Nulls else if is_canonical field then seen.Integers else seen.Other
+learned seen.Nulls field =
+    if is_null_field field then seen.Nulls else if is_canonical field then seen.Integers else seen.Other
 learned seen.Integers field = if is_null_field field || is_canonical field then seen.Integers else seen.Other
 
 -- what is known of each column after one record more, which may be shorter or longer

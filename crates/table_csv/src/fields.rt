@@ -51,7 +51,8 @@ fn field_value(
     requires { ScaleFits kind }
     ensures ok { IfOk result (λ value. value ≡ value_of kind text.now) }
     ensures taken { OnOk result (field_fault rec field kind text.now ≡ None) }
-    ensures fault { IfErr result (λ fault. fault ≢ TableFault.Memory → field_fault rec field kind text.now ≡ Some fault) }
+    ensures fault { IfErr result (λ fault. fault ≢ TableFault.Memory → field_fault rec field kind text.now
+        ≡ Some fault) }
 {
     let Ok(text) = str::from_utf8(text) else {
         return Err(TableFault::NotUtf8 { rec, field });
@@ -78,7 +79,8 @@ fn values(
     requires few { length columns.now ≤ 64 }
     ensures ok { IfOk result (λ values. values.items ≡ values_of columns.now (fields_of row.now)) }
     ensures taken { OnOk result (fields_fault rec 1 columns.now (fields_of row.now) ≡ None) }
-    ensures fault { IfErr result (λ fault. fault ≢ TableFault.Memory → fields_fault rec 1 columns.now (fields_of row.now) ≡ Some fault) }
+    ensures fault { IfErr result (λ fault. fault ≢ TableFault.Memory
+        → fields_fault rec 1 columns.now (fields_of row.now) ≡ Some fault) }
 {
     let mut values = Vec::with_capacity(alloc, columns.len())?;
     for i in 0..columns.len() {
@@ -100,7 +102,8 @@ pub(crate) fn record_values(
     requires few { length columns.now ≤ 64 }
     ensures ok { IfOk result (λ values. values.items ≡ values_of columns.now (fields_of row.now)) }
     ensures taken { OnOk result (record_fault rec columns.now (fields_of row.now) ≡ None) }
-    ensures fault { IfErr result (λ fault. fault ≢ TableFault.Memory → record_fault rec columns.now (fields_of row.now) ≡ Some fault) }
+    ensures fault { IfErr result (λ fault. fault ≢ TableFault.Memory
+        → record_fault rec columns.now (fields_of row.now) ≡ Some fault) }
 {
     if rec > MOST_ROWS {
         return Err(TableFault::TooManyRows);

@@ -51,7 +51,8 @@ fn is_repeated(named: &[Named], name: &str) -> bool
 fn read_name(alloc: Global, named: &[Named], number: u32, field: &[u8]) -> Result<Named, TableFault>
     ensures ok { IfOk result (λ head. head ≡ head_of number field.now) }
     ensures taken { OnOk result (name_fault (names_of named.now) number field.now ≡ None) }
-    ensures fault { IfErr result (λ fault. fault ≢ TableFault.Memory → name_fault (names_of named.now) number field.now ≡ Some fault) }
+    ensures fault { IfErr result (λ fault. fault ≢ TableFault.Memory
+        → name_fault (names_of named.now) number field.now ≡ Some fault) }
 {
     let Ok(text) = str::from_utf8(field) else {
         return Err(TableFault::NotUtf8 {
@@ -72,7 +73,8 @@ pub(crate) fn read_heading(alloc: Global, row: &ByteRecord) -> Result<Vec<Named>
     requires { length (fields_of row.now) ≤ 64 }
     ensures ok { IfOk result (λ heads. heads.items ≡ heads_from 1 (fields_of row.now)) }
     ensures taken { OnOk result (heading_fault [] 1 (fields_of row.now) ≡ None) }
-    ensures fault { IfErr result (λ fault. fault ≢ TableFault.Memory → heading_fault [] 1 (fields_of row.now) ≡ Some fault) }
+    ensures fault { IfErr result (λ fault. fault ≢ TableFault.Memory → heading_fault [] 1 (fields_of row.now)
+        ≡ Some fault) }
 {
     let mut named = Vec::with_capacity(alloc, row.len())?;
     for i in 0..row.len() {

@@ -6,7 +6,8 @@ use sq_value::ColType;
 
 /// What stands before a mark, where the text ends with it.
 fn before_mark<'a>(text: &'a str, mark: &str) -> Option<&'a str>
-    ensures some { IfSome result (λ name. (ends mark.now text.now ≡ true) × (name.now ≡ take (length text.now - length mark.now) text.now)) }
+    ensures some { IfSome result (λ name. (ends mark.now text.now ≡ true) × (name.now
+        ≡ take (length text.now - length mark.now) text.now)) }
     ensures none { IfNone result (ends mark.now text.now ≡ false) }
 {
     text.strip_suffix(mark)

@@ -34,7 +34,8 @@ fn learn_all(
     width: usize,
 ) -> Result<Vec<Seen>, TableFault>
     requires { IsPlain reader.old }
-    ensures ok { IfOk result (λ seen. seen.items ≡ fold all_learned (replicate width Seen.Nulls) (records_left reader.old)) }
+    ensures ok { IfOk result (λ seen. seen.items
+        ≡ fold all_learned (replicate width Seen.Nulls) (records_left reader.old)) }
     ensures memory { IfErr result (λ fault. fault ≡ TableFault.Memory) }
 {
     let mut seen = vec![in alloc; Seen::Nulls; width]?;
@@ -74,7 +75,8 @@ fn complete(alloc: Global, heads: &[Named], seen: &[Seen]) -> Result<Vec<Column>
 fn read_columns(alloc: Global, reader: &mut Reader<&[u8]>) -> Result<Vec<Column>, TableFault>
     requires { IsPlain reader.old }
     ensures ok { IfOk result (λ columns. IsHeaded (records_left reader.old) columns.items) }
-    ensures fault { IfErr result (λ fault. fault ≢ TableFault.Memory → table_of_records (records_left reader.old) ≡ Err fault) }
+    ensures fault { IfErr result (λ fault. fault ≢ TableFault.Memory
+        → table_of_records (records_left reader.old) ≡ Err fault) }
 {
     let mut row = ByteRecord::new(alloc);
     if !next_row(reader, &mut row)? || row.is_empty() {
@@ -97,7 +99,8 @@ fn read_below(
     requires plain { IsPlain reader.old }
     requires headed { IsHeaded (records_left reader.old) columns.items }
     ensures ok { IfOk result (λ table. table_of_records (records_left reader.old) ≡ Ok table) }
-    ensures fault { IfErr result (λ fault. fault ≢ TableFault.Memory → table_of_records (records_left reader.old) ≡ Err fault) }
+    ensures fault { IfErr result (λ fault. fault ≢ TableFault.Memory
+        → table_of_records (records_left reader.old) ≡ Err fault) }
 {
     let mut heading = ByteRecord::new(alloc);
     next_row(reader, &mut heading)?;

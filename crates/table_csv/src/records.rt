@@ -12,7 +12,8 @@ use std::alloc::Global;
 /// empty heading is set, since csv would else keep copies of the first record, however long.
 pub(crate) fn plain_reader(alloc: Global, bytes: &[u8]) -> Result<Reader<&[u8]>, TableFault>
     ensures plain { IfOk result (λ reader. IsPlain reader) }
-    ensures records { strip_bom bytes.now ≡ bytes.now → IfOk result (λ reader. records_left reader ≡ records default_config bytes.now) }
+    ensures records { strip_bom bytes.now ≡ bytes.now → IfOk result (λ reader. records_left reader
+        ≡ records default_config bytes.now) }
     ensures memory { IfErr result (λ fault. fault ≡ TableFault.Memory) }
 {
     let mut reader = ReaderBuilder::new()
@@ -36,7 +37,8 @@ fn fault_of(_error: &Error) -> TableFault
 /// The next record into `row`, and whether there was one.
 pub(crate) fn next_row(reader: &mut Reader<&[u8]>, row: &mut ByteRecord) -> Result<bool, TableFault>
     requires { IsPlain reader.old }
-    ensures gives { IfOk result (λ found. GivesNext (records_left reader.old) found (fields_of row.new) (records_left reader.new)) }
+    ensures gives { IfOk result
+        (λ found. GivesNext (records_left reader.old) found (fields_of row.new) (records_left reader.new)) }
     ensures plain { OnOk result (IsPlain reader.new) }
     ensures memory { IfErr result (λ fault. fault ≡ TableFault.Memory) }
 {

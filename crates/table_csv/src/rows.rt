@@ -20,9 +20,11 @@ pub(crate) fn read_rows(
     requires plain { IsPlain reader.old }
     requires scales { ScalesFit table.columns }
     requires empty { table.rows ≡ [] }
-    ensures ok { IfOk result (λ read. read ≡ record table { rows = map (values_of table.columns) (records_left reader.old) }) }
+    ensures ok { IfOk result (λ read. read
+        ≡ record table { rows = map (values_of table.columns) (records_left reader.old) }) }
     ensures taken { OnOk result (records_fault 1 table.columns (records_left reader.old) ≡ None) }
-    ensures fault { IfErr result (λ fault. fault ≢ TableFault.Memory → records_fault 1 table.columns (records_left reader.old) ≡ Some fault) }
+    ensures fault { IfErr result (λ fault. fault ≢ TableFault.Memory
+        → records_fault 1 table.columns (records_left reader.old) ≡ Some fault) }
 {
     let mut row = ByteRecord::new(alloc);
     let mut rec = 1;
