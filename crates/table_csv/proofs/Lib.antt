@@ -1,0 +1,9 @@
+mod RecordLemmas
+mod MarkLemmas
+mod OrderMarkLemmas
+mod FieldLemmas
+mod TypeLemmas
+mod HeadLemmas
+mod ColumnLemmas
+mod RowLemmas
+mod FileLemmas

@@ -1,0 +1,37 @@
+//! The rows of a table, from the records below the heading.
+ghost use Rattle.std.specs.Prelude.{◌≡◌, ◌≢◌, [], None, Some, map, IfOk, IfErr, OnOk};
+ghost use Rattle.table_csv.specs.Fields.{records_fault, values_of};
+ghost use Rattle.table_csv.specs.Reading.{IsPlain, records_left};
+ghost use Rattle.table_csv.specs.Work.{ScalesFit};
+
+use crate::fault::TableFault;
+use crate::fields::record_values;
+use crate::records::next_row;
+use csv::{ByteRecord, Reader};
+use sq_value::Table;
+use std::alloc::Global;
+
+/// The table with the reader's records as its rows.
+pub(crate) fn read_rows(
+    alloc: Global,
+    reader: &mut Reader<&[u8]>,
+    mut table: Table,
+) -> Result<Table, TableFault>
+    requires plain { IsPlain reader.old }
+    requires scales { ScalesFit table.columns }
+    requires empty { table.rows ≡ [] }
+    ensures ok { IfOk result (λ read. read
+        ≡ record table { rows = map (values_of table.columns) (records_left reader.old) }) }
+    ensures taken { OnOk result (records_fault 1 table.columns (records_left reader.old) ≡ None) }
+    ensures fault { IfErr result (λ fault. fault ≢ TableFault.Memory
+        → records_fault 1 table.columns (records_left reader.old) ≡ Some fault) }
+{
+    let mut row = ByteRecord::new(alloc);
+    let mut rec = 1;
+    while next_row(reader, &mut row)? {
+        let values = record_values(alloc, table.columns(), &row, rec)?;
+        table.push_row(values)?;
+        rec += 1;
+    }
+    Ok(table)
+}
