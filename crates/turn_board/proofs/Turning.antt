@@ -48,7 +48,7 @@ abbrev pub value_or : {K T : Type 0} → K → List (ℕ × Lot K T) → K
 value_or d [] = d
 value_or d (x ∷ xs) = or_else d x.1
 
-each_past : {X : Type 0} (P : X → Type 0) (xs : List X) → Each P (drop (length xs) xs)
+pub each_past : {X : Type 0} (P : X → Type 0) (xs : List X) → Each P (drop (length xs) xs)
 each_past P [] = tt
 each_past P (x ∷ xs) = each_past P xs
 

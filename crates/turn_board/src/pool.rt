@@ -1,6 +1,7 @@
 //! A pool of items that the seats share: the list of all its puts and takes.
 ghost use Rattle.std.specs.Prelude.{◌≡◌, ◌+◌, ◌-◌, ◌<◌, ◌≤◌, ◌++◌, ◌∷◌, ℕ, [], length, max, All, IfOk, IfErr, true, false};
-ghost use Rattle.turn_board.specs.Pools.{above, left_in, puts_in, takes_in, top_of};
+ghost use Rattle.std.specs.List.Sorted.{IsPermutation};
+ghost use Rattle.turn_board.specs.Pools.{above, left_in, put_items, puts_in, taken_items, takes_in, top_of};
 
 use std::alloc::{AllocError, Global};
 use std::marker::Model;
@@ -152,6 +153,7 @@ impl<T: Stamped + Copy> Pool<T> {
     /// All its moves, in order.
     pub fn moves(&self) -> &[Move<T>]
         ensures moves { result.now ≡ self.now.moves }
+        ensures settled { IsPermutation (put_items self.now.moves) (taken_items self.now.moves ++ left_in self.now.moves) }
         ensures plans { All (λ v. T.same_plan v.item self.now.sample) self.now.moves }
     {
         self.moves.as_slice()

@@ -2,7 +2,7 @@
 ghost use Rattle.std.specs.Prelude.{◌≡◌, ◌<◌, ◌≤◌, [], length, All, vec_len, vec_capacity, IfOk};
 ghost use Rattle.turn_board.specs.Boards.{IsSeatOf, IsIdle, lengths_of, modules_of, seats_of};
 
-use crate::sample::{Rows, Ticket, claim_by, drain_all, enter_by};
+use crate::sample::{Rows, Ticket, claim_by, drain_all, enter_by, look_by};
 use crate::{Board, Closed, Pool, PoolRefused, Seat};
 use std::alloc::{AllocError, Global};
 use std::test::Fail;
@@ -81,6 +81,7 @@ fn two_seats_take_turns(rt: HostRuntime) -> Result<(), Fail> {
         claim_by(&board, list, 1),
     ];
     assert_eq!(rt; claims, [Some(0), Some(1), None, None, None]);
+    assert_eq!(rt; look_by(&rt, &board, list, 1), 0);
     let closed = board.close(seats);
     assert_eq!(rt; closed.drawn, 2);
     assert_eq!(rt;

@@ -1,9 +1,10 @@
 use Rattle.std.proofs.Common.{rules, arith, ◌≡◌, ◌-◌, ◌++◌, [], ◌∷◌, false, cond, not, sym, ap, ◌∙◌, subst, ℕ, List, length, take}
 use Rattle.turn_board.specs.declared.pool.Move.{Move}
 use Rattle.turn_board.specs.Sums.{Each}
-use Rattle.turn_board.specs.Pools.{PoolState, left_in, top_of, puts_in, takes_in}
+use Rattle.turn_board.specs.Pools.{PoolState, left_in, top_of, puts_in, takes_in, put_items, taken_items}
 use Rattle.turn_board.proofs.Rosters.{each_append, sum_snoc}
-use Rattle.turn_board.proofs.PoolLaws.{left_snoc, left_each, take_front, top_snoc}
+use Rattle.turn_board.proofs.PoolLaws.{left_snoc, left_each, take_front, top_snoc, put_snoc, taken_snoc, settled_put, settled_taken}
+use Rattle.std.specs.List.Sorted.{IsPermutation}
 use Rattle.turn_board.proofs.Dealing.{each_back}
 use Rattle.turn_board.proofs.pool.Pool.take.Goals as goal
 
@@ -20,6 +21,12 @@ invariant_of-self-2 g c = let v = c.self.invariant in let old : List (Move g.row
       plans = subst (λ (l : List (Move g.row.T.Denot)). Each (λ (y : Move g.row.T.Denot). g.T.Stamped.same_plan y.item c.self.inside.sample) l) (sym moves) (each_append (λ (y : Move g.row.T.Denot). g.T.Stamped.same_plan y.item c.self.inside.sample) old (move ∷ []) v.plans
           ((each_back (λ (y : g.row.T.Denot). g.T.Stamped.same_plan y c.self.inside.sample) rest x (subst (λ (l : List g.row.T.Denot). Each (λ (y : g.row.T.Denot). g.T.Stamped.same_plan y c.self.inside.sample) l) last (left_each (λ (y : g.row.T.Denot). g.T.Stamped.same_plan y c.self.inside.sample) [] old tt v.plans))).1, tt));
       top = (let a = v.top in let e = ap (λ (l : List (Move g.row.T.Denot)). top_of g.T.Stamped.stamp l) moves in let f = top_snoc g.T.Stamped.stamp old move in omega arith);
+      settled = subst (λ (x' : List g.row.T.Denot × List g.row.T.Denot × List g.row.T.Denot). IsPermutation x'.0 (x'.1 ++ x'.2)) (λ i. (
+        sym (ap (λ (l : List (Move g.row.T.Denot)). put_items l) moves ∙ put_snoc old move) i,
+        sym (ap (λ (l : List (Move g.row.T.Denot)). taken_items l) moves ∙ taken_snoc old move) i,
+        sym (ap (λ (l : List (Move g.row.T.Denot)). left_in l) moves ∙ (left_snoc [] old move ∙ (ap (λ (l : List g.row.T.Denot). take (length l - 1) l) last ∙ take_front rest x))) i,
+      ))
+          (settled_taken (put_items old) (taken_items old) rest x (subst (λ (l : List g.row.T.Denot). IsPermutation (put_items old) (taken_items old ++ l)) last v.settled));
     }
 
 pub returns-clause-last : goal.returns-clause-last
