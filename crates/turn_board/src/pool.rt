@@ -153,7 +153,8 @@ impl<T: Stamped + Copy> Pool<T> {
     /// All its moves, in order.
     pub fn moves(&self) -> &[Move<T>]
         ensures moves { result.now ≡ self.now.moves }
-        ensures settled { IsPermutation (put_items self.now.moves) (taken_items self.now.moves ++ left_in self.now.moves) }
+        ensures settled { IsPermutation (put_items self.now.moves)
+            (taken_items self.now.moves ++ left_in self.now.moves) }
         ensures plans { All (λ v. T.same_plan v.item self.now.sample) self.now.moves }
     {
         self.moves.as_slice()
