@@ -1,7 +1,7 @@
 //! The indexes' plain rivals: the maps of Rust's standard library, with a vector of places for each key.
 //!
 //! Built by `rustc -O -o indexes indexes.rs`. It prints, for each workload and number of keys, the nanoseconds of an add and
-//! of a question, as run.sh prints them for the indexes.
+//! of a question, as indexes.sh prints them for the indexes.
 
 use std::collections::{BTreeMap, HashMap};
 use std::ffi::c_long;
@@ -68,8 +68,8 @@ fn btree_map<K: Ord + Clone>(workload: &str, keys: &[K]) {
     let start = processor_time();
     let mut sum = 0u64;
     for key in keys {
-        for places in map.range(key.clone()..).take(1) {
-            sum = places.1.iter().take(1).fold(sum, |s, p| s.wrapping_add(u64::from(*p)));
+        if let Some((_, places)) = map.range(key.clone()..=key.clone()).next() {
+            sum = places.iter().take(1).fold(sum, |s, p| s.wrapping_add(u64::from(*p)));
         }
     }
     report("BTreeMap", workload, keys.len(), made, nanoseconds(start, keys.len()), sum);

@@ -7,6 +7,7 @@ use Rattle.std.specs.Option.{option_map_or}
 use Rattle.std.proofs.lemmas.Bool.{cases_Bool}
 use Rattle.std.proofs.lemmas.Option.{slice_get_within, get_or_from_slice_get}
 use Rattle.std.proofs.lemmas.List.{append-nil, take_all}
+use Rattle.std.proofs.lemmas.List.Folds.{flat_map-map}
 use Rattle.std.proofs.lemmas.List.Sorted.{IsPermutation-refl}
 use Rattle.sq_value.specs.Relation.{Relation}
 use Rattle.sq_value.specs.declared.value.Value.{Value}
@@ -28,7 +29,6 @@ use Rattle.eddy_runs.specs.State.{State, Asked, IsStep, HasEnded}
 use Rattle.eddy_runs.specs.Told.{Told, IsToldRun, Opened, Acted, Routed, IsQuiet, most_hops}
 use Rattle.eddy_runs.specs.Recorded.{marks_of}
 use Rattle.eddy_runs.specs.Followed.{IsFollowed, scanned_tuples, fetched_tuples, entries_told, all_given}
-use Rattle.eddy_runs.proofs.CloseLemmas.{flat_map-map}
 use Rattle.eddy_runs.proofs.ToldLemmas.{told_run, asked_from, marked_from}
 use Rattle.eddy_runs.proofs.FollowedLemmas.{claimed, claimed_is, rows_asked, fetched_by, Follows, follows_start, follows_claim, follows_fetch, follows_end, follows_routing}
 

@@ -1,6 +1,6 @@
 -- A run with look-ups, worked out by hand: SELECT name, amt FROM cust c, ord o WHERE c.id = o.cid, where ord has no scan and is looked up by cid.
 use Rattle.std.proofs.Common.{◌≡◌, ◌⊎◌, inl, inr, subst, ℕ, zero, suc, List, [], ◌∷◌, Bool, true, false, Option, Some, None, refl, ap, sym, ◌∙◌, pos, arith, replicate}
-use Rattle.std.specs.Prelude.{◌≢◌, IsBitSet, codes, All, Contains, slice_get, slice_set, is_some}
+use Rattle.std.specs.Prelude.{length, ◌≢◌, IsBitSet, codes, All, Contains, slice_get, slice_set, is_some}
 use Rattle.std.proofs.lemmas.Bool.{false≢true}
 use Rattle.std.proofs.lemmas.List.{append-nil}
 use Rattle.std.proofs.lemmas.List.Elements.{All-nil, All-cons, All-head}
@@ -31,6 +31,7 @@ use Rattle.eddy_meaning.specs.Route.{single, came, AsksFor, IsAsking, IsLegalBy,
 use Rattle.eddy_meaning.specs.Act.{pending_after, found_of}
 use Rattle.eddy_runs.specs.declared.event.Event.{Event}
 use Rattle.eddy_runs.specs.declared.event.Event.TheVariants as event
+use Rattle.eddy_runs.specs.Counts.{came_count}
 use Rattle.eddy_runs.specs.State.{State, Asked, AskedAfter, IsStep, IsRun, Started, Stepped, IsNewKey, empty_state}
 use Rattle.eddy_meaning.proofs.MatchLemmas.{Contains-here, Contains-nil}
 use Rattle.eddy_runs.proofs.WorkedScans.{scanned, no_meaning}
@@ -394,3 +395,17 @@ pub is_run : IsRun no_meaning orders tables events s10
 is_run =
     Stepped _ s9 s10 _ (Stepped _ s8 s9 _ (Stepped _ s7 s8 _ (Stepped _ s6 s7 _ (Stepped _ s5 s6 _ (Stepped _ s4 s5 _ (Stepped _ s3 s4 _ (Stepped _ s2 s3 _ (Stepped _ s1 s2 _ (Stepped _ _ s1 _ Started step1)
     step2) step3) step4) step5) step6) step7) step8) step9) step10
+
+-- how many tuples come of each of its events
+abbrev answers : ℕ → ℕ → List ℕ
+answers ninth tenth =
+    came_count no_meaning orders tables (empty_state orders) (event.Claim 0) ∷ came_count no_meaning orders tables s1 (event.Route 0 (Build 0))
+    ∷ came_count no_meaning orders tables s2 (event.Route 0 (Probe 1 (via.Equal 0))) ∷ came_count no_meaning orders tables s3 (event.Fetch 0)
+    ∷ came_count no_meaning orders tables s4 (event.Fetch 0) ∷ came_count no_meaning orders tables s5 (event.Route 0 (Build 1))
+    ∷ came_count no_meaning orders tables s6 (event.Route 0 (Build 1)) ∷ came_count no_meaning orders tables s7 (event.End 0) ∷ ninth ∷ tenth ∷ []
+
+pub answers_are : answers (came_count no_meaning orders tables s8 (event.Route 0 (Probe 0 (via.Equal 0)))) (came_count no_meaning orders tables s9 (event.Route 0 (Probe 0 (via.Equal 0))))
+    ≡ 1 ∷ 1 ∷ 0 ∷ 1 ∷ 1 ∷ 1 ∷ 1 ∷ 0 ∷ 1 ∷ 1 ∷ []
+answers_are =
+    ap (λ (l : List Tuple). answers (length l) (came_count no_meaning orders tables s9 (event.Route 0 (Probe 0 (via.Equal 0))))) came_first
+    ∙ ap (λ (l : List Tuple). answers 1 (length l)) came_second

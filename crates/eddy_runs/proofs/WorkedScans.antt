@@ -1,6 +1,6 @@
 -- A run of a self-join by <, worked out by hand: SELECT a.x, b.x FROM n a, n b WHERE a.x < b.x, with n: x / 1 / 2 / 3.
 use Rattle.std.proofs.Common.{◌≡◌, inl, inr, subst, ℕ, zero, suc, List, [], ◌∷◌, true, false, Some, None, refl, ap, sym, ◌∙◌, pos, arith, replicate}
-use Rattle.std.specs.Prelude.{codes, Contains, slice_set, is_some, IsBitSet}
+use Rattle.std.specs.Prelude.{length, codes, Contains, slice_set, is_some, IsBitSet}
 use Rattle.std.specs.Int.{bit_at}
 use Rattle.std.proofs.lemmas.Bool.{false≢true}
 use Rattle.std.proofs.lemmas.Nat.{bit_set_by_shift}
@@ -31,6 +31,7 @@ use Rattle.eddy_meaning.specs.Route.{single, came, AsksFor}
 use Rattle.eddy_meaning.specs.Act.{pending_after, found_of}
 use Rattle.eddy_runs.specs.declared.event.Event.{Event}
 use Rattle.eddy_runs.specs.declared.event.Event.TheVariants as event
+use Rattle.eddy_runs.specs.Counts.{came_count}
 use Rattle.eddy_runs.specs.State.{State, AskedAfter, IsStep, IsRun, Started, Stepped, IsNewKey, HasEnded, empty_state}
 
 abbrev pub n : Relation
@@ -283,6 +284,21 @@ pub is_run : IsRun no_meaning pairs (n ∷ []) events s10
 is_run =
     Stepped _ s9 s10 _ (Stepped _ s8 s9 _ (Stepped _ s7 s8 _ (Stepped _ s6 s7 _ (Stepped _ s5 s6 _ (Stepped _ s4 s5 _ (Stepped _ s3 s4 _ (Stepped _ s2 s3 _ (Stepped _ s1 s2 _ (Stepped _ _ s1 _ Started step1)
     step2) step3) step4) step5) step6) step7) step8) step9) step10
+
+-- how many tuples come of each of its events
+abbrev answers : ℕ → ℕ → List ℕ
+answers eighth tenth =
+    came_count no_meaning pairs (n ∷ []) (empty_state pairs) (event.Claim 0) ∷ came_count no_meaning pairs (n ∷ []) s1 (event.Route 0 (Build 0))
+    ∷ came_count no_meaning pairs (n ∷ []) s2 (event.Claim 1) ∷ came_count no_meaning pairs (n ∷ []) s3 (event.Route 1 (Build 1))
+    ∷ came_count no_meaning pairs (n ∷ []) s4 (event.Claim 1) ∷ came_count no_meaning pairs (n ∷ []) s5 (event.Route 2 (Build 1))
+    ∷ came_count no_meaning pairs (n ∷ []) s6 (event.Route 0 (Probe 1 (via.Range 0))) ∷ eighth
+    ∷ came_count no_meaning pairs (n ∷ []) s8 (event.Route 0 (Probe 0 via.All)) ∷ tenth ∷ []
+
+pub answers_are : answers (came_count no_meaning pairs (n ∷ []) s7 (event.Route 0 (Probe 0 (via.Range 0)))) (came_count no_meaning pairs (n ∷ []) s9 (event.Route 0 (Select 0)))
+    ≡ 1 ∷ 1 ∷ 1 ∷ 1 ∷ 1 ∷ 1 ∷ 0 ∷ 0 ∷ 1 ∷ 1 ∷ []
+answers_are =
+    ap (λ (l : List Tuple). answers (length l) (came_count no_meaning pairs (n ∷ []) s9 (event.Route 0 (Select 0)))) none_below
+    ∙ ap (λ (l : List Tuple). answers 0 (length l)) pair_finished
 
 -- which hasn't ended: both scans have rows left
 pub isnt_ended : HasEnded pairs (n ∷ []) s10 → ⊥

@@ -1,11 +1,9 @@
 pub mod State
+pub mod Counts
 pub mod Justified
 pub mod Reached
+pub mod Work
 pub mod Complete
 pub mod Told
 pub mod Recorded
 pub mod Followed
-pub mod View
-pub mod Answers
-pub mod Accounts
-pub mod Close

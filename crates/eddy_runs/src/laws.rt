@@ -1,6 +1,5 @@
 //! The laws of runs, as contracts of functions that do nothing.
-ghost use Rattle.std.specs.Prelude.{◌≡◌, ℕ, ◌<◌, Option, List, Some, true, length, slice_get};
-ghost use Rattle.std.specs.List.Sorted.{IsPermutation};
+ghost use Rattle.std.specs.Prelude.{◌≡◌, ℕ, ◌<◌, ◌≤◌, Option, List, Some, true, length, slice_get};
 ghost use Rattle.sq_value.specs.Relation.{Relation};
 ghost use Rattle.sq_value.specs.declared.value.Value.{Value};
 ghost use Rattle.sq_value.specs.declared.value.Truth.{Truth};
@@ -8,17 +7,14 @@ ghost use Rattle.sq_value.specs.declared.predicate.Kinds.{Kinds};
 ghost use Rattle.sq_expr.specs.Fits.{IsFit};
 ghost use Rattle.sq_expr.specs.declared.block.AliasUse.{AliasUse};
 ghost use Rattle.sq_expr.specs.declared.block.Block.{Block};
-ghost use Rattle.bag_meaning.specs.declared.combo.Built.{Built};
-ghost use Rattle.eddy_meaning.specs.Owed.{all_credits};
 ghost use Rattle.eddy_runs.specs.declared.event.Event.{Event};
 ghost use Rattle.eddy_runs.specs.State.{State, IsStep, IsRun, HasEnded, empty_state};
+ghost use Rattle.eddy_runs.specs.Work.{work_left, keys_to_ask};
 ghost use Rattle.eddy_runs.specs.Reached.{IsReached};
 ghost use Rattle.eddy_runs.specs.Complete.{IsBagOf};
 ghost use Rattle.eddy_runs.specs.Told.{Told, IsToldRun, most_hops};
 ghost use Rattle.eddy_runs.specs.Recorded.{IsRecorded, marks_of};
 ghost use Rattle.eddy_runs.specs.Followed.{IsFollowed};
-ghost use Rattle.eddy_meaning.specs.Keys.{Mark};
-ghost use Rattle.eddy_runs.specs.Close.{Seat, PoolMove, HaveClosed, HaveEnded, HaveAnswered, HaveTold, results_of, most_of, all_told};
 
 /// The laws of the core's runs. It does nothing.
 ///
@@ -55,34 +51,19 @@ pub fn run_laws()
         → IsFollowed gives block tables s.results s.log (marks_of s.asked) (most_hops tolds) tolds }
 {}
 
-/// The laws of the workers' close. It does nothing.
+/// The laws of what a run has left to do. It does nothing.
 ///
-/// The results of all workers together are what the log is credited with (`credits`). Where each
-/// row came to some worker, they are the bag in another order (`bag`). Where the workers answer for
-/// their keys too and counted their hops, their results, the log, the marked keys and the most hops
-/// are an answer as it must be (`recorded`), and where each has its account of what it was told, all
-/// that was told accounts for each arrival, entry, key and result (`followed`).
-pub fn close_laws()
-    ensures credits { (gives : ℕ → Value → Value → Truth) (block : Block) (tables : List Relation)
-        → (seats : List Seat) (log : List Built) (marks : List Mark) (moves : List PoolMove)
-        → HaveClosed gives block tables seats log marks moves
-        → IsPermutation (results_of seats) (all_credits gives block tables log) }
-    ensures bag { (gives : ℕ → Value → Value → Truth) (kinds : ℕ → Option Kinds) (block : Block)
-        → (tables : List Relation) → IsFit kinds tables block
-        → (alias : ℕ) (u : AliasUse) → slice_get block.aliases alias ≡ Some u → u.access.scan ≡ true
-        → (seats : List Seat) (log : List Built) (marks : List Mark) (moves : List PoolMove)
-        → HaveEnded gives block tables seats log marks moves
-        → IsBagOf gives block tables (results_of seats) }
-    ensures recorded { (gives : ℕ → Value → Value → Truth) (block : Block) (tables : List Relation)
-        → (seats : List Seat) (log : List Built) (marks : List Mark) (moves : List PoolMove)
-        → (kinds : ℕ → Option Kinds) → IsFit kinds tables block
-        → (alias : ℕ) (u : AliasUse) → slice_get block.aliases alias ≡ Some u → u.access.scan ≡ true
-        → 0 < length seats → HaveEnded gives block tables seats log marks moves
-        → HaveAnswered gives block tables seats marks
-        → IsRecorded gives block tables (results_of seats) log marks (most_of seats) }
-    ensures followed { (gives : ℕ → Value → Value → Truth) (block : Block) (tables : List Relation)
-        → (seats : List Seat) (log : List Built) (marks : List Mark) (moves : List PoolMove)
-        → (tolds : List (List Told)) → HaveClosed gives block tables seats log marks moves
-        → HaveAnswered gives block tables seats marks → HaveTold gives block tables seats marks tolds
-        → IsFollowed gives block tables (results_of seats) log marks (most_of seats) (all_told tolds) }
+/// Each step leaves less (`falls`), so no run has more steps than there was to do at its start
+/// (`ends`).
+pub fn work_laws()
+    ensures falls { (gives : ℕ → Value → Value → Truth) (kinds : ℕ → Option Kinds) (block : Block)
+        → (tables : List Relation) → IsFit kinds tables block → (old new : State) (event : Event)
+        → IsReached gives block tables old → length old.next ≡ length block.aliases
+        → IsStep gives block tables old event new
+        → (length new.next ≡ length block.aliases) × (work_left block tables (keys_to_ask block tables) new
+        < work_left block tables (keys_to_ask block tables) old) }
+    ensures ends { (gives : ℕ → Value → Value → Truth) (kinds : ℕ → Option Kinds) (block : Block)
+        → (tables : List Relation) → IsFit kinds tables block → (events : List Event) (s : State)
+        → IsRun gives block tables events s
+        → length events ≤ work_left block tables (keys_to_ask block tables) (empty_state block) }
 {}

@@ -1,1 +1,1 @@
-SELECT * FROM t, u WHERE t.c = u.d
+SELECT name, amt FROM cust c, ord o WHERE c.id = o.cid

@@ -1,88 +1,186 @@
 -- Words over files have one outcome.
-use Rattle.std.proofs.Common.{◌≡◌, ℕ, ◌<◌, ◌≤◌, List, length, Option, Some, None, Result, Ok, Err, refl, sym, ◌∙◌, ap, subst, ◌⊎◌, inl, inr}
-use Rattle.std.proofs.lemmas.Bool.{cases_lt}
-use Rattle.outside.specs.Files.{File, lookup}
-use Rattle.sq_parse.specs.declared.parser.ParseFault.{ParseFault}
-use Rattle.sq_parse.specs.declared.parser.ParseFault.TheVariants as parser
-use Rattle.sq_parse.specs.declared.tree.Script.{Script}
+use Rattle.std.proofs.Common.{◌≡◌, ℕ, zero, suc, ◌+◌, ◌<◌, ◌≤◌, List, [], ◌∷◌, length, get_or, Option, Some, None, Result, Ok, Err, refl, sym, ◌∙◌, ap, subst, ◌⊎◌, inl, inr, arith}
+use Rattle.std.specs.Prelude.{All}
+use Rattle.std.proofs.lemmas.List.Elements.{All-head, All-tail, Contains-get_or}
+use Rattle.outside.specs.Files.{File}
 use Rattle.sq_parse.specs.Fault.{ReadsAs}
+use Rattle.sq_parse.specs.declared.parser.ParseFault.{ParseFault}
 use Rattle.sq_parse.proofs.OneReading.{one_reading, same_reading}
-use Rattle.eddyql.specs.Words.{Command, command}
-use Rattle.eddyql.specs.EarlyScript.{JoinQuery}
-use Rattle.eddyql.specs.ScriptText.{ScriptReadsAs}
-use Rattle.eddyql.specs.Outcome.{◌>>=◌, or_refuse, join_read, plan_of, outcome, text_of, IsOutcome, OneOutcome}
+use Rattle.sq_parse.specs.declared.tree.Script.{Script}
+use Rattle.sq_parse.specs.declared.tree.Statement.{Statement}
+use Rattle.sq_expr.specs.declared.block.Block.{Block}
+use Rattle.catalogue.specs.Named.{NamedTables}
+use Rattle.sq_bind.specs.Answer as binding
+use Rattle.sq_bind.specs.Given.{over}
+use Rattle.sq_bind.specs.Statement.{Scope}
+use Rattle.sq_bind.proofs.AnswerLemmas.{one_fault, no_fault, some_answer}
+use Rattle.sq_bind.proofs.ParsedLemmas.{parsed_sound}
+use Rattle.sq_bind.specs.declared.fault.BindFault.{BindFault}
+use Rattle.command_line.specs.declared.command.Query.{Query}
+use Rattle.eddyql.specs.Asked.{asked}
+use Rattle.eddyql.specs.Accesses.{accesses_read}
+use Rattle.eddyql.specs.Faults.{script_status, bind_status}
+use Rattle.eddyql.specs.Files.{file_read, catalogue_read}
+use Rattle.eddyql.specs.Outcome.{IsSpelled, IsScript, IsBlock, AreBlocks, IsBoundPlan, IsPlan, IsOutcome, OneOutcome, Predicates, text_of}
+use Rattle.eddyql.specs.Steps.{Behind, AndThen, ComesTo, or_refuse, or_fault}
 use Rattle.eddyql.specs.declared.plan.Plan.{Plan}
+use Rattle.eddyql.specs.declared.status.FileOf.TheVariants as file
 use Rattle.eddyql.specs.declared.status.Status.{Status}
 use Rattle.eddyql.specs.declared.status.Status.TheVariants as status
-use Rattle.eddyql.specs.declared.status.FileOf.TheVariants as file
-use Rattle.eddyql.proofs.ScriptTextLemmas.{join_read-long}
-use Rattle.eddyql.proofs.PlanLemmas.{behind_query}
-use Rattle.eddyql.proofs.RunLemmas.{outcome-plan, outcome-usage}
 
-not_there : {X : Type 0} {x : X} → ◌≡◌ {A = Option X} None (Some x) → ⊥
-not_there e = cc
+-- what a step comes to is one thing
+abbrev pub IsOne : {A : Type 0} → (Result A Status → Type 0) → Type 0
+IsOne {A = A} step = (x y : Result A Status) → step x → step y → x ≡ y
 
-same_value : {X : Type 0} {x y : X} → ◌≡◌ {A = Option X} (Some x) (Some y) → x ≡ y
-same_value e = cc
+one_given : {A : Type 0} (r : Result A Status) → IsOne (ComesTo r)
+one_given r x y h k = h ∙ sym k
 
--- each script reads as one thing
-some_reading : (c : Command) (files : List File) → (read : Result Script ParseFault) × ScriptReadsAs c files read
-some_reading c files = by (lookup files c.script) refl
+one_behind : {A B : Type 0} (more : A → Result B Status → Type 0) → ((a : A) → IsOne (more a)) → (r : Result A Status) → IsOne (Behind more r)
+one_behind more each (Err s) x y h k = h ∙ sym k
+one_behind more each (Ok a) x y h k = each a x y h k
+
+one_then : {A B : Type 0} (first : Result A Status → Type 0) (more : A → Result B Status → Type 0) → IsOne first → ((a : A) → IsOne (more a))
+    → IsOne (AndThen first more)
+one_then first more one each x y h k =
+    one_behind more each k.0 x y (subst (λ r. Behind more r x) (one h.0 k.0 h.1 k.1) h.2) k.2
+
+one_spelled : (text : List ℕ) → IsOne (IsSpelled text)
+one_spelled text x y h k = h.2 ∙ ap (or_fault script_status) (same_reading text h.0 k.0 h.1 k.1) ∙ sym k.2
+
+one_block : (scope : Scope) (number : ℕ) (s : Statement) → IsOne (IsBlock scope number s)
+one_block scope number s (Ok b) (Ok c) h k = ap Ok (h.is ∙ sym k.is)
+one_block scope number s (Ok b) (Err r) h k = absurd (no_fault scope s b k.0 h k.1)
+one_block scope number s (Err r) (Ok c) h k = absurd (no_fault scope s c h.0 k h.1)
+one_block scope number s (Err r) (Err t) h k = ap Err (h.2 ∙ ap (bind_status number) (one_fault scope s h.0 k.0 h.1 k.1) ∙ sym k.2)
+
+one_blocks : (scope : Scope) (number : ℕ) (ss : List Statement) → IsOne (AreBlocks scope number ss)
+unfolding AreBlocks
+one_blocks scope number [] x y h k = h ∙ sym k
+one_blocks scope number (s ∷ more) x y h k =
+    one_then (IsBlock scope number s) (λ block. AndThen (AreBlocks scope (number + 1) more) (λ blocks. ComesTo (Ok (block ∷ blocks))))
+    (one_block scope number s)
+    (λ block. one_then (AreBlocks scope (number + 1) more) (λ blocks. ComesTo (Ok (block ∷ blocks))) (one_blocks scope (number + 1) more)
+    (λ blocks. one_given (Ok (block ∷ blocks)))) x y h k
+
+-- ---- all of a run
+
+one_script : (files : List File) (name : List ℕ) → IsOne (IsScript files name)
+one_script files name = one_then (ComesTo (file_read file.Script files name)) IsSpelled (one_given (file_read file.Script files name)) one_spelled
+
+one_bound_plan : (p : Predicates) (q : Query) (script : Script) (catalogue : NamedTables) → IsOne (IsBoundPlan p q script catalogue)
+one_bound_plan p q script catalogue =
+    one_then (ComesTo (accesses_read catalogue.tables q.accesses))
+    (λ accesses. AndThen (AreBlocks (over catalogue accesses p.calls) 1 script.statements)
+    (λ blocks. ComesTo (Ok record { blocks = blocks; catalogue = catalogue })))
+    (one_given (accesses_read catalogue.tables q.accesses))
+    (λ accesses. one_then (AreBlocks (over catalogue accesses p.calls) 1 script.statements)
+    (λ blocks. ComesTo (Ok record { blocks = blocks; catalogue = catalogue }))
+    (one_blocks (over catalogue accesses p.calls) 1 script.statements) (λ blocks. one_given (Ok record { blocks = blocks; catalogue = catalogue })))
+
+one_plan : (p : Predicates) (q : Query) (files : List File) → IsOne (IsPlan p q files)
+unfolding IsPlan
+one_plan p q files =
+    one_then (IsScript files q.script) (λ script. AndThen (ComesTo (catalogue_read files q.tables)) (λ catalogue. IsBoundPlan p q script catalogue))
+    (one_script files q.script)
+    (λ script. one_then (ComesTo (catalogue_read files q.tables)) (λ catalogue. IsBoundPlan p q script catalogue)
+    (one_given (catalogue_read files q.tables)) (one_bound_plan p q script))
+
+pub same_outcome : (p : Predicates) (words : List (List ℕ)) (files : List File) → IsOne (IsOutcome p words files)
+same_outcome p words files x y h k =
+    one_then (ComesTo (or_refuse status.Usage (asked words)))
+    (λ q. AndThen (IsPlan p q files) (λ plan. ComesTo (Ok (text_of p.gives plan.catalogue.tables plan.blocks))))
+    (one_given (or_refuse status.Usage (asked words)))
+    (λ q. one_then (IsPlan p q files) (λ plan. ComesTo (Ok (text_of p.gives plan.catalogue.tables plan.blocks))) (one_plan p q files)
+    (λ plan. one_given (Ok (text_of p.gives plan.catalogue.tables plan.blocks)))) x y h k
+
+-- ---- there is one
+
+-- a step comes to something
+abbrev pub Comes : {A : Type 0} → (Result A Status → Type 0) → Type 0
+Comes {A = A} step = (r : Result A Status) × step r
+
+some_then : {A B : Type 0} (first : Result A Status → Type 0) (more : A → Result B Status → Type 0) → Comes first → ((a : A) → first (Ok a) → Comes (more a))
+    → Comes (AndThen first more)
+some_then {A = A} {B = B} first more f each = by f.0 f.1
   where
-    by : (o : Option (List ℕ)) → lookup files c.script ≡ o → (read : Result Script ParseFault) × ScriptReadsAs c files read
-    by None e = (Err parser.Memory, λ text f. absurd (not_there (sym e ∙ f)))
-    by (Some found) e =
-        let r = one_reading found in
-        (r.0, λ text f short. subst (λ (t : List ℕ). ReadsAs t r.0) (same_value (sym e ∙ f)) r.1)
+    by : (r : Result A Status) → first r → Comes (AndThen first more)
+    by (Err s) h = (Err s, (Err s, h, refl))
+    by (Ok a) h = let k = each a h in (k.0, (Ok a, h, k.1))
 
--- two readings of a script give one plan
-same_join : (c : Command) (text : List ℕ) (x y : Result Script ParseFault) → (length text ≤ 67108864 → x ≡ y) → join_read x c.tables text ≡ join_read y c.tables text
-same_join c text x y e = by (cases_lt 67108864 (length text))
+some_given : {A : Type 0} (r : Result A Status) → Comes (ComesTo r)
+some_given r = (r, refl)
+
+some_spelled : (text : List ℕ) → Comes (IsSpelled text)
+some_spelled text = let r = one_reading text in (or_fault script_status r.0, (r.0, r.1, refl))
+
+some_script : (files : List File) (name : List ℕ) → Comes (IsScript files name)
+some_script files name =
+    some_then (ComesTo (file_read file.Script files name)) IsSpelled (some_given (file_read file.Script files name)) (λ text h. some_spelled text)
+
+some_block : (scope : Scope) (number : ℕ) (s : Statement) → 0 < length s.sources → Comes (IsBlock scope number s)
+some_block scope number s some = by (some_answer scope s some)
   where
-    by : (67108864 < length text) ⊎ (length text ≤ 67108864) → join_read x c.tables text ≡ join_read y c.tables text
-    by (inl long) = join_read-long x c.tables text long ∙ sym (join_read-long y c.tables text long)
-    by (inr short) = ap (λ (r : Result Script ParseFault). join_read r c.tables text) (e short)
+    by : ((block : Block) × binding.IsBound scope s block) ⊎ ((x : BindFault) × binding.IsBindFault scope s x) → Comes (IsBlock scope number s)
+    by (inl h) = (Ok h.0, h.1)
+    by (inr h) = (Err (bind_status number h.0), (h.0, h.1, refl))
 
-same_plan : (c : Command) (files : List File) (x y : Result Script ParseFault) → ScriptReadsAs c files x → ScriptReadsAs c files y → plan_of x c files ≡ plan_of y c files
-unfolding plan_of
-same_plan c files x y h k = by (lookup files c.script) refl
+-- a statement has sources
+abbrev pub HasSource : Statement → Type 0
+HasSource s = 0 < length s.sources
+
+some_blocks : (scope : Scope) (number : ℕ) (ss : List Statement) → All HasSource ss → Comes (AreBlocks scope number ss)
+unfolding AreBlocks
+some_blocks scope number [] all = (Ok [], refl)
+some_blocks scope number (s ∷ more) all =
+    let rest = some_blocks scope (number + 1) more (All-tail HasSource s more all) in
+    some_then (IsBlock scope number s) (λ block. AndThen (AreBlocks scope (number + 1) more) (λ blocks. ComesTo (Ok (block ∷ blocks))))
+    (some_block scope number s (All-head HasSource s more all))
+    (λ block h. some_then (AreBlocks scope (number + 1) more) (λ blocks. ComesTo (Ok (block ∷ blocks))) rest (λ blocks k. some_given (Ok (block ∷ blocks))))
+
+-- the statements of a script that was read have sources
+sources_read : (text : List ℕ) (script : Script) (read : Result Script ParseFault) → ReadsAs text read → ◌≡◌ {A = Result Script Status} (Ok script) (or_fault script_status read)
+    → All HasSource script.statements
+sources_read text script (Err f) h e = absurd cc
+sources_read text script (Ok found) h e =
+    let same : script ≡ found = cc in
+    subst (λ (x : Script). All HasSource x.statements) (sym same)
+    (λ k d within. (parsed_sound (get_or found.statements k d)
+    (record { text = text; script = found; spelled = h.1; among = Contains-get_or found.statements k d within })).some_source)
+
+sources_of : (files : List File) (name : List ℕ) (script : Script) → IsScript files name (Ok script) → All HasSource script.statements
+sources_of files name script h = by h.0 h.2
   where
-    from : Result Script ParseFault → Option (List ℕ) → Result Plan Status
-    from read o = (or_refuse (status.NotFound file.Script) o >>= (λ z. join_read read c.tables z)) >>= (λ query. behind_query query c files)
+    by : (r : Result (List ℕ) Status) → Behind IsSpelled r (Ok script) → All HasSource script.statements
+    by (Err s) k = absurd cc
+    by (Ok text) k = sources_read text script k.0 k.1 k.2
 
-    by : (o : Option (List ℕ)) → lookup files c.script ≡ o → from x (lookup files c.script) ≡ from y (lookup files c.script)
-    by None e = ap (from x) e ∙ sym (ap (from y) e)
-    by (Some text) e =
-        ap (from x) e
-        ∙ ap (λ (r : Result JoinQuery Status). r >>= (λ query. behind_query query c files)) (same_join c text x y (λ short. same_reading text x y (h text e short) (k text e short)))
-        ∙ sym (ap (from y) e)
+some_bound_plan : (p : Predicates) (q : Query) (script : Script) (catalogue : NamedTables) → All HasSource script.statements → Comes (IsBoundPlan p q script catalogue)
+some_bound_plan p q script catalogue all =
+    some_then (ComesTo (accesses_read catalogue.tables q.accesses))
+    (λ accesses. AndThen (AreBlocks (over catalogue accesses p.calls) 1 script.statements)
+    (λ blocks. ComesTo (Ok record { blocks = blocks; catalogue = catalogue })))
+    (some_given (accesses_read catalogue.tables q.accesses))
+    (λ accesses h. some_then (AreBlocks (over catalogue accesses p.calls) 1 script.statements)
+    (λ blocks. ComesTo (Ok record { blocks = blocks; catalogue = catalogue }))
+    (some_blocks (over catalogue accesses p.calls) 1 script.statements all) (λ blocks k. some_given (Ok record { blocks = blocks; catalogue = catalogue })))
 
-same_outcome : (words : List (List ℕ)) (files : List File) (x y : Result Script ParseFault)
-    → ((c : Command) → command words ≡ Some c → ScriptReadsAs c files x) → ((c : Command) → command words ≡ Some c → ScriptReadsAs c files y)
-    → outcome x words files ≡ outcome y words files
-same_outcome words files x y h k = by (command words) refl
-  where
-    by : (o : Option Command) → command words ≡ o → outcome x words files ≡ outcome y words files
-    by None e = outcome-usage x words files e ∙ sym (outcome-usage y words files e)
-    by (Some c) e =
-        outcome-plan x words c files e
-        ∙ ap (λ (p : Result Plan Status). p >>= (λ q. Ok (text_of q))) (same_plan c files x y (h c e) (k c e))
-        ∙ sym (outcome-plan y words c files e)
+some_plan : (p : Predicates) (q : Query) (files : List File) → Comes (IsPlan p q files)
+unfolding IsPlan
+some_plan p q files =
+    some_then (IsScript files q.script) (λ script. AndThen (ComesTo (catalogue_read files q.tables)) (λ catalogue. IsBoundPlan p q script catalogue))
+    (some_script files q.script)
+    (λ script h. some_then (ComesTo (catalogue_read files q.tables)) (λ catalogue. IsBoundPlan p q script catalogue)
+    (some_given (catalogue_read files q.tables)) (λ catalogue k. some_bound_plan p q script catalogue (sources_of files q.script script h)))
+
+some_outcome : (p : Predicates) (words : List (List ℕ)) (files : List File) → Comes (IsOutcome p words files)
+some_outcome p words files =
+    some_then (ComesTo (or_refuse status.Usage (asked words)))
+    (λ q. AndThen (IsPlan p q files) (λ plan. ComesTo (Ok (text_of p.gives plan.catalogue.tables plan.blocks))))
+    (some_given (or_refuse status.Usage (asked words)))
+    (λ q h. some_then (IsPlan p q files) (λ plan. ComesTo (Ok (text_of p.gives plan.catalogue.tables plan.blocks))) (some_plan p q files)
+    (λ plan k. some_given (Ok (text_of p.gives plan.catalogue.tables plan.blocks))))
 
 pub one_outcome : OneOutcome
-one_outcome words files = by (command words) refl
-  where
-    only : (read : Result Script ParseFault) → ((c : Command) → command words ≡ Some c → ScriptReadsAs c files read)
-        → (due : Result (List ℕ) Status) × IsOutcome words files due × ((other : Result (List ℕ) Status) → IsOutcome words files other → other ≡ due)
-    only read reads = (
-      outcome read words files,
-      record { read = read; reads = reads; is = refl },
-      λ other d. d.is ∙ same_outcome words files d.read read d.reads reads,
-    )
-
-    by : (o : Option Command) → command words ≡ o
-        → (due : Result (List ℕ) Status) × IsOutcome words files due × ((other : Result (List ℕ) Status) → IsOutcome words files other → other ≡ due)
-    by None e = only (Err parser.Memory) (λ c f. absurd (not_there (sym e ∙ f)))
-    by (Some c) e =
-        let r = some_reading c files in
-        only r.0 (λ d f. subst (λ (x : Command). ScriptReadsAs x files r.0) (same_value (sym e ∙ f)) r.1)
+one_outcome p words files =
+    let due = some_outcome p words files in
+    (due.0, due.1, λ other d. same_outcome p words files other due.0 d due.1)

@@ -1,181 +1,278 @@
--- How a run ends: the outcome of its words, by the plan.
-use Rattle.std.proofs.Common.{◌≡◌, ℕ, ◌≤◌, Bool, true, false, List, [], ◌∷◌, length, take, map, Option, Some, None, Result, Ok, Err, refl, sym, ◌∙◌, ap, subst, ◌⊎◌, inl, inr, arith}
-use Rattle.std.specs.Prelude.{All, is_some}
-use Rattle.std.proofs.lemmas.List.{length-map, get_or-map}
-use Rattle.std.proofs.lemmas.Bool.{false≢true}
-use Rattle.outside.specs.Files.{File, lookup}
-use Rattle.sq_parse.specs.declared.parser.ParseFault.{ParseFault}
+-- How a run ends: by its plan, by its words, and on the notes.
+use Rattle.std.proofs.Common.{◌≡◌, ◌≢◌, ℕ, ◌≤◌, List, [], ◌∷◌, ◌++◌, map, Option, Some, None, Result, Ok, Err, refl, sym, ◌∙◌, ap, subst, ◌⊎◌, inl, inr, arith}
+use Rattle.std.specs.Prelude.{IsSome, IfOk, OnOk, OnErr}
+use Rattle.outside.specs.Files.{File}
+use Rattle.outside.specs.Faults.{NeverFalls, RoseOrFull}
+use Rattle.outside.specs.Told.{Adds, AddsFront}
+use Rattle.outside.proofs.Laws.{AddsFront-whole, AddsFront-nothing}
+use Rattle.result_sink.specs.declared.fault.WriteFault.{WriteFault}
+use Rattle.result_sink.specs.declared.fault.WriteFault.TheVariants as write
+use Rattle.command_line.specs.declared.command.Query.{Query}
+use Rattle.command_line.specs.declared.command.TableWord.{TableWord}
 use Rattle.sq_parse.specs.declared.tree.Script.{Script}
-use Rattle.sq_value.specs.Relation.{Relation}
-use Rattle.sq_expr.specs.declared.block.Block.{Block}
-use Rattle.bag_meaning.specs.Bag.{bag}
-use Rattle.bag_meaning.specs.Answer.{answer}
-use Rattle.bag_meaning.proofs.AnswerLemmas.{answer-unordered}
-use Rattle.bag_meaning.specs.declared.combo.Combo.{Combo}
-use Rattle.bag_meaning.proofs.ProductRange.{bag-in_range}
-use Rattle.eddyql.specs.Words.{Command, command, command_of, table_of_word}
-use Rattle.sq_parse.specs.Fault.{IsFault, ReadsAs}
-use Rattle.eddyql.specs.ScriptText.{HasScript, ScriptReadsAs}
-use Rattle.eddyql.specs.EarlyJoin.{IsJoin, no_meaning}
-use Rattle.eddyql.specs.Writing.{HasRows, rows_of_combo}
-use Rattle.eddyql.specs.Outcome.{◌>>=◌, plan_of, outcome, text_of, Reached, ReachedBy, IsOutcome}
-use Rattle.eddyql.specs.declared.status.FileOf.{FileOf}
-use Rattle.eddyql.proofs.StageLemmas.{MayEnd-early}
+use Rattle.catalogue.specs.Named.{NamedTables}
+use Rattle.eddyql.specs.Asked.{asked, names_of, names_asked}
+use Rattle.eddyql.specs.Doing.{Went, Stopped, Refuses, Wrote, Answered, Ended, Finished}
+use Rattle.eddyql.specs.Faults.{IsPlaced}
+use Rattle.eddyql.specs.Files.{catalogue_read}
+use Rattle.eddyql.specs.Note.{IsNoted, NotesOf, line_of}
+use Rattle.eddyql.specs.Outcome.{IsOutcome, IsPlan, IsScript, IsBoundPlan, Predicates, Reached, ReachedBy, ReachedTable, text_of}
 use Rattle.eddyql.specs.Refusal.{MayRefuse, IsEarly}
-use Rattle.eddyql.specs.Run.{MayEnd}
+use Rattle.eddyql.specs.Run.{MayEnd, IsLate, IsBeforeOutput, status_of, text_due}
+use Rattle.eddyql.specs.Seen.{Folder, Sink}
+use Rattle.eddyql.specs.Steps.{AndThen, Behind, ComesTo, or_refuse}
 use Rattle.eddyql.specs.declared.plan.Plan.{Plan}
+use Rattle.eddyql.specs.declared.status.FileOf.{FileOf}
+use Rattle.eddyql.specs.declared.status.FileOf.TheVariants as file
 use Rattle.eddyql.specs.declared.status.Status.{Status}
 use Rattle.eddyql.specs.declared.status.Status.TheVariants as status
-use Rattle.eddyql.proofs.WordsLemmas.{IsCommand-from_command}
-use Rattle.eddyql.proofs.PlanLemmas.{plan_of-script_fault}
+use Rattle.eddyql.proofs.OneOutcome.{same_outcome}
+use Rattle.eddyql.proofs.StageLemmas.{MayEnd-early, MayEnd-late, ends_by_outcome, holds_anyway, early_not_done, early_not_write, early_not_usage, early_not_found, late_not, late_not_before, MayRefuse-read}
 
--- a join has two aliases
-two_aliases : (block : Block) (tables : List Relation) → IsJoin block tables → length block.aliases ≡ 2
-two_aliases block tables j = sym (length-map block.aliases (λ u. u.table)) ∙ ap (length {A = ℕ}) j.uses
+-- ---- the plan
 
--- the combinations that were found are these, row by row
-pub rows_found : (block : Block) (tables : List Relation) (combos : List Combo) (rows : List (List ℕ)) → IsJoin block tables
-    → map (λ (c : Combo). take 2 c.rows) combos ≡ rows → map (rows_of_combo block) combos ≡ rows
-rows_found block tables combos rows j e =
-    ap (λ (n : ℕ). map (λ (c : Combo). take n c.rows) combos) (two_aliases block tables j) ∙ e
+-- a script that was refused
+pub plan_unscripted : (p : Predicates) (q : Query) (files : List File) (s : Status) → IsScript files q.script (Err s) → IsPlan p q files (Err s)
+unfolding IsPlan
+plan_unscripted p q files s h = (Err s, h, refl)
 
--- what holds of each image holds of each item
-All-from_map : {X Y : Type 0} (P : Y → Type 0) (f : X → Y) (xs : List X) → All P (map f xs) → All (λ x. P (f x)) xs
-All-from_map P f xs all k d h =
-    subst P (get_or-map f xs k d (f d) h) (all k (f d) (omega (arith, length-map xs f)))
+-- tables that were refused behind a script
+pub plan_untabled : (p : Predicates) (q : Query) (files : List File) (script : Script) (s : Status) → IsScript files q.script (Ok script)
+    → ComesTo (catalogue_read files q.tables) (Err s) → IsPlan p q files (Err s)
+unfolding IsPlan
+plan_untabled p q files script s h k = (Ok script, h, (Err s, k, refl))
 
--- each alias of a combination that was found has a row of its table
-pub rows_fit : (block : Block) (tables : List Relation) (combos : List Combo) → IsJoin block tables → block.order ≡ []
-    → map (λ (c : Combo). take 2 c.rows) combos ≡ answer no_meaning block tables
-    → All (λ combo. HasRows block tables (rows_of_combo block combo)) combos
-rows_fit block tables combos j none f =
-    let e = f ∙ answer-unordered no_meaning block tables none in
-    All-from_map (HasRows block tables) (rows_of_combo block) combos
-    (subst (All (HasRows block tables)) (sym (rows_found block tables combos (bag no_meaning block tables) j e)) (λ k d h. (bag-in_range no_meaning block tables k d h).below))
+-- what a script over a catalogue comes to
+pub plan_over : (p : Predicates) (q : Query) (files : List File) (script : Script) (catalogue : NamedTables) (due : Result Plan Status)
+    → IsScript files q.script (Ok script) → ComesTo (catalogue_read files q.tables) (Ok catalogue) → IsBoundPlan p q script catalogue due → IsPlan p q files due
+unfolding IsPlan
+plan_over p q files script catalogue due h k g = (Ok script, h, (Ok catalogue, k, g))
 
--- the command of words that are in form
-pub record IsRunOf (words : List (List ℕ)) (script : List ℕ) (tables : List (List ℕ)) : Type 0 where
-  pub is : command words ≡ Some (command_of script tables)
-  pub few : length tables ≤ 16
+pub reached_table : (q : Query) (files : List File) (script : Script) (f : FileOf) → IsScript files q.script (Ok script) → ReachedTable files q.tables f → Reached q files f
+reached_table q files script file.Script h k = absurd k
+reached_table q files script (file.Table n) h k = ((script, h), k)
 
-pub IsRunOf-words : (words : List (List ℕ)) (script : List ℕ) (tables : List (List ℕ)) → is_some (command words) ≡ true → words ≡ script ∷ tables
-    → IsRunOf words script tables
-IsRunOf-words words script tables e f = by (command words) refl e
-  where
-    by : (o : Option Command) → command words ≡ o → is_some o ≡ true → IsRunOf words script tables
-    by None g h = absurd cc
-    by (Some c) g h =
-        let parts = IsCommand-from_command words c g in
-        let same : c.script ∷ parts.rest ≡ script ∷ tables = sym parts.words ∙ f in
-        let first : c.script ≡ script = cc in
-        let behind : parts.rest ≡ tables = cc in
-        record {
-          is = g ∙ ap (λ (s : List ℕ). Some record { script = s; tables = c.tables }) first
-              ∙ ap (λ ts. Some record { script = script; tables = ts }) (parts.tables ∙ ap (map table_of_word) behind);
-          few = subst (λ (ts : List (List ℕ)). length ts ≤ 16) behind parts.few;
-        }
+pub reached_script : (q : Query) (files : List File) (f : FileOf) → f ≡ file.Script → Reached q files f
+reached_script q files f e = subst (Reached q files) (sym e) tt
 
--- the same, by another name of the script
-pub named : (words : List (List ℕ)) (script name : List ℕ) (tables : List (List ℕ)) → IsRunOf words script tables → name ≡ script
-    → command words ≡ Some (command_of name tables)
-named words script name tables r same = r.is ∙ ap (λ (n : List ℕ). Some (command_of n tables)) (sym same)
+-- ---- the outcome
 
--- the outcome of a command is that of its plan
-pub outcome-plan : (read : Result Script ParseFault) (words : List (List ℕ)) (c : Command) (files : List File) → command words ≡ Some c
-    → outcome read words files ≡ (plan_of read c files >>= (λ plan. Ok (text_of plan)))
-unfolding outcome
-outcome-plan read words c files e = rw e refl
+pub outcome_unplanned : (p : Predicates) (words : List (List ℕ)) (files : List File) (q : Query) (s : Status) → asked words ≡ Some q
+    → IsPlan p q files (Err s) → IsOutcome p words files (Err s)
+outcome_unplanned p words files q s e h = (Ok q, sym (ap (or_refuse status.Usage) e), (Err s, h, refl))
 
--- words that aren't in form
-pub outcome-usage : (read : Result Script ParseFault) (words : List (List ℕ)) (files : List File) → command words ≡ None → outcome read words files ≡ Err status.Usage
-unfolding outcome
-outcome-usage read words files e = rw e refl
+pub outcome_planned : (p : Predicates) (words : List (List ℕ)) (files : List File) (q : Query) (plan : Plan) → asked words ≡ Some q
+    → IsPlan p q files (Ok plan) → IsOutcome p words files (Ok (text_of p.gives plan.catalogue.tables plan.blocks))
+outcome_planned p words files q plan e h = (Ok q, sym (ap (or_refuse status.Usage) e), (Ok plan, h, refl))
 
-pub due-usage : (words : List (List ℕ)) (files : List File) (due : Result (List ℕ) Status) → command words ≡ None → IsOutcome words files due → due ≡ Err status.Usage
-due-usage words files due e d = d.is ∙ outcome-usage d.read words files e
+pub outcome_usage : (p : Predicates) (words : List (List ℕ)) (files : List File) → asked words ≡ None → IsOutcome p words files (Err status.Usage)
+outcome_usage p words files e = (Err status.Usage, sym (ap (or_refuse status.Usage) e), refl)
 
--- words that aren't in form have no script
-pub no_script : (words : List (List ℕ)) (files : List File) (text : List ℕ) → command words ≡ None → HasScript words files text → ⊥
-no_script words files text e h = let both : ◌≡◌ {A = Option Command} None (Some h.asked) = sym e ∙ h.in_form in cc
+-- ---- the ends
 
--- the text of a script is one
-same_script : (words : List (List ℕ)) (files : List File) (text other : List ℕ) (c : Command) → HasScript words files text → command words ≡ Some c
-    → lookup files c.script ≡ Some other → text ≡ other
-same_script words files text other c h e f =
-    let asked : ◌≡◌ {A = Option Command} (Some h.asked) (Some c) = sym h.in_form ∙ e in
-    let same : h.asked ≡ c = cc in
-    let found : lookup files c.script ≡ Some text = subst (λ (x : Command). lookup files x.script ≡ Some text) same h.found in
-    let texts : ◌≡◌ {A = Option (List ℕ)} (Some text) (Some other) = sym found ∙ f in
-    cc
-
--- the outcome of words whose script reads as this
-pub outcome_by : (words : List (List ℕ)) (files : List File) (text : List ℕ) (read : Result Script ParseFault) → HasScript words files text → ReadsAs text read
-    → IsOutcome words files (outcome read words files)
-outcome_by words files text read h reads = record {
-  read = read;
-  reads = λ c e other f short. subst (λ (t : List ℕ). ReadsAs t read) (same_script words files text other c h e f) reads;
-  is = refl;
+-- answers were written, or weren't
+pub answered_done : (old new : Sink) (text : List ℕ) → Wrote old new text {A = Unit {0}} (Ok tt) → Answered old new text status.Done
+answered_done old new text w = record {
+  counts = w.counts;
+  done = λ e. w.ok;
+  front = AddsFront-whole old.written new.written text w.ok;
+  write = λ e. absurd cc;
+  late = tt;
 }
 
--- a script that is refused by its fault
-outcome-script_fault : (words : List (List ℕ)) (files : List File) (text : List ℕ) (fault : ParseFault) → HasScript words files text
-    → outcome (Err fault) words files ≡ Err (status.Script fault)
-outcome-script_fault words files text fault h =
-    outcome-plan (Err fault) words h.asked files h.in_form
-    ∙ ap (λ (r : Result Plan Status). r >>= (λ p. Ok (text_of p))) (plan_of-script_fault (Err fault) h.asked files text fault h.found h.short refl)
+pub answered_write : (old new : Sink) (text : List ℕ) → Wrote old new text {A = Unit {0}} (Err write.Failed) → Answered old new text status.Write
+answered_write old new text w = record {
+  counts = w.counts;
+  done = λ e. absurd cc;
+  front = w.front;
+  write = λ e. w.failed refl;
+  late = tt;
+}
 
-pub due-script_fault : (words : List (List ℕ)) (files : List File) (text : List ℕ) (fault : ParseFault) → HasScript words files text → IsFault text fault
-    → IsOutcome words files (Err (status.Script fault))
-due-script_fault words files text fault h e =
-    subst (IsOutcome words files) (outcome-script_fault words files text fault h) (outcome_by words files text (Err fault) h e)
+pub answered_memory : (old new : Sink) (text : List ℕ) → Wrote old new text {A = Unit {0}} (Err write.Memory) → Answered old new text status.Memory
+answered_memory old new text w = record {
+  counts = w.counts;
+  done = λ e. absurd cc;
+  front = w.front;
+  write = λ e. absurd cc;
+  late = tt;
+}
 
--- no command, from the test or from no words
-pub no_command-false : (words : List (List ℕ)) (b : Bool) → b ≡ is_some (command words) → b ≡ false → command words ≡ None
-no_command-false words b e f = by (command words) (sym e ∙ f)
+-- a run whose plan was made ends by its answers
+pub ended_answered : (p : Predicates) (words : List (List ℕ)) (q : Query) (plan : Plan) (old new : Folder) (before now : Sink) (s : Status)
+    → asked words ≡ Some q → Went old new (λ files. IsPlan p q files (Ok plan))
+    → Answered before now (text_of p.gives plan.catalogue.tables plan.blocks) s → Ended p words old new before now s
+ended_answered p words q plan old new before now s e w a = record {
+  keeps = w.keeps;
+  folder_counts = omega (arith, w.kept);
+  out_counts = a.counts;
+  ends = λ files told. MayEnd-late _ _ (IsOutcome p words files) text s (due files told) a.late a.write;
+  done = λ is files told. (text, due files told, a.done is);
+  front = λ files told. inr (text, due files told, a.front);
+  kept = holds_anyway s _ w.kept;
+  read = λ f is. absurd (late_not s (status.Read f) a.late is (λ x. x));
+  write = a.write;
+  not_found = λ f is. absurd (late_not s (status.NotFound f) a.late is (λ x. x));
+  nothing = λ silent. absurd (late_not_before s a.late silent);
+  placed = placed s a.late;
+  usage_only = λ is. absurd (late_not s status.Usage a.late is (λ x. x));
+}
   where
-    by : (o : Option Command) → is_some o ≡ false → o ≡ None
-    by None g = refl
-    by (Some c) g = absurd cc
+    text : List ℕ
+    text = text_of p.gives plan.catalogue.tables plan.blocks
 
-pub no_command-none : {X : Type 0} (bytes : X → List ℕ) (xs : List X) → length xs ≡ 0 → command (map bytes xs) ≡ None
-unfolding command
-no_command-none bytes [] e = refl
-no_command-none bytes (x ∷ xs) e = absurd (omega arith)
+    due : (files : List File) → old.holds ≡ Some files → IsOutcome p words files (Ok text)
+    due files told = outcome_planned p words files q plan e (w.tells files told)
 
--- the parts of words that were split
-pub run_of : {X : Type 0} (bytes : X → List ℕ) (xs : List X) (x : X) (rest : List X) (b : Bool) → b ≡ is_some (command (map bytes xs)) → b ≡ true
-    → xs ≡ x ∷ rest → IsRunOf (map bytes xs) (bytes x) (map bytes rest)
-run_of bytes xs x rest b e f split = IsRunOf-words (map bytes xs) (bytes x) (map bytes rest) (sym e ∙ f) (ap (map bytes) split)
+    placed : (s : Status) → IsLate s → IsPlaced s
+    placed status.Done h = tt
+    placed status.Write h = tt
+    placed status.Memory h = tt
+    placed _ h = absurd h
 
--- what a plan is due over, where its script reads as the outcome's
-abbrev pub ReadsHere : List ℕ → List (List ℕ) → List File → Result Script ParseFault → Type 0
-ReadsHere name tables files read = ScriptReadsAs (command_of name tables) files read
+-- a run whose plan was refused ends by that
+pub ended_stopped : (p : Predicates) (words : List (List ℕ)) (q : Query) (old new : Folder) (before : Sink) (s : Status) → asked words ≡ Some q
+    → Stopped old new (λ files. IsPlan p q files (Err s)) (Reached q) s → Ended p words old new before before s
+ended_stopped p words q old new before s e r = record {
+  keeps = r.keeps;
+  folder_counts = r.counts;
+  out_counts = omega arith;
+  ends = λ files told.
+      MayEnd-early (λ f. RoseOrFull old.faults new.faults × Reached q files f) (λ f. RoseOrFull old.faults new.faults × ReachedBy words files f) _ (IsSome old.holds) _
+      (IsOutcome p words files) s r.early (outcome_unplanned p words files q s e)
+      (λ f k. (k.0, record { query = q; in_form = e; reached = k.1 })) (reads files told);
+  done = λ is. absurd (early_not_done _ s r.early is);
+  front = λ files told. inl refl;
+  kept = r.kept;
+  read = r.read;
+  write = λ is. absurd (early_not_write _ s r.early is);
+  not_found = λ f is. early_not_found _ s f r.early is;
+  nothing = λ silent. refl;
+  placed = r.early.placed;
+  usage_only = λ is. absurd (early_not_usage _ s r.early is);
+}
+  where
+    reads : (files : List File) → old.holds ≡ Some files → MayRefuse (λ f. RoseOrFull old.faults new.faults × Reached q files f) (IsPlan p q files (Err s)) s
+    reads files told = MayRefuse-read (Reached q files) (RoseOrFull old.faults new.faults) _ s r.read (r.refused files told)
 
--- the outcome of a run whose plan was prepared
-pub due_of_run : (words : List (List ℕ)) (script name : List ℕ) (tables : List (List ℕ)) (files : List File) (plan : Plan) (due : Result (List ℕ) Status)
-    → IsRunOf words script tables → name ≡ script
-    → ((read : Result Script ParseFault) → ReadsHere name tables files read → plan_of read (command_of name tables) files ≡ Ok plan)
-    → IsOutcome words files due → due ≡ Ok (text_of plan)
-due_of_run words script name tables files plan due r same planned d =
-    let e = named words script name tables r same in
-    d.is ∙ outcome-plan d.read words (command_of name tables) files e
-    ∙ ap (λ (p : Result Plan Status). p >>= (λ q. Ok (text_of q))) (planned d.read (d.reads (command_of name tables) e))
+-- want of memory may come where a run would end by any status
+ended_memory : (p : Predicates) (words : List (List ℕ)) (old new : Folder) (before now : Sink) (s : Status) → Ended p words old new before now s
+    → Ended p words old new before now status.Memory
+ended_memory p words old new before now s h = record {
+  keeps = h.keeps;
+  folder_counts = h.folder_counts;
+  out_counts = h.out_counts;
+  ends = λ files told. tt;
+  done = λ is. absurd cc;
+  front = h.front;
+  kept = tt;
+  read = λ f is. absurd cc;
+  write = λ is. absurd cc;
+  not_found = λ f is. absurd cc;
+  nothing = λ (silent : ⊥). absurd silent;
+  placed = tt;
+  usage_only = λ is. absurd cc;
+}
 
--- the end of a run whose plan was refused
-pub end_of_refused : (words : List (List ℕ)) (script name : List ℕ) (tables : List (List ℕ)) (files : List File) (rose writes told : Type 0) (s : Status) (due : Result (List ℕ) Status)
-    → IsRunOf words script tables → name ≡ script → IsEarly told s
-    → ((read : Result Script ParseFault) → ReadsHere name tables files read
-    → MayRefuse (λ f. rose × Reached read (command_of name tables) files f) (plan_of read (command_of name tables) files) s)
-    → IsOutcome words files due → MayEnd (λ f. rose × ReachedBy words files f) writes due s
-end_of_refused words script name tables files rose writes told s due r same early refused d =
-    let e = named words script name tables r same in
-    let reads = d.reads (command_of name tables) e in
-    MayEnd-early (λ f. rose × Reached d.read (command_of name tables) files f) (λ f. rose × ReachedBy words files f) writes told
-    (plan_of d.read (command_of name tables) files) due s early
-    (λ h. d.is ∙ outcome-plan d.read words (command_of name tables) files e ∙ ap (λ (p : Result Plan Status). p >>= (λ q. Ok (text_of q))) h)
-    (λ f k. (k.0, record { asked = command_of name tables; in_form = e; read = d.read; reads = reads; reached = k.1 }))
-    (refused d.read reads)
+-- a run that touched nothing ends by its words, or for want of memory
+ended_usage : (p : Predicates) (words : List (List ℕ)) (old : Folder) (before : Sink) → asked words ≡ None → Ended p words old old before before status.Usage
+ended_usage p words old before e = record {
+  keeps = refl;
+  folder_counts = omega arith;
+  out_counts = omega arith;
+  ends = λ files told. outcome_usage p words files e;
+  done = λ is. absurd cc;
+  front = λ files told. inl refl;
+  kept = refl;
+  read = λ f is. absurd cc;
+  write = λ is. absurd cc;
+  not_found = λ f is. absurd cc;
+  nothing = λ silent. refl;
+  placed = tt;
+  usage_only = λ is. e;
+}
 
--- where the folder's count didn't rise, no file has a read fault
-pub not_read : (rose : Type 0) (P : FileOf → Type 0) → ¬ rose → (f : FileOf) → ¬ (rose × P f)
-not_read rose P calm f h = calm h.0
+ended_early : (p : Predicates) (words : List (List ℕ)) (old : Folder) (before : Sink) → Ended p words old old before before status.Memory
+ended_early p words old before = record {
+  keeps = refl;
+  folder_counts = omega arith;
+  out_counts = omega arith;
+  ends = λ files told. tt;
+  done = λ is. absurd cc;
+  front = λ files told. inl refl;
+  kept = tt;
+  read = λ f is. absurd cc;
+  write = λ is. absurd cc;
+  not_found = λ f is. absurd cc;
+  nothing = λ (silent : ⊥). absurd silent;
+  placed = tt;
+  usage_only = λ is. absurd cc;
+}
+
+-- ---- the notes
+
+by_either : (P : Status → Type 0) (s ended : Status) → (ended ≡ s) ⊎ (ended ≡ status.Memory) → P s → P status.Memory → P ended
+by_either P s ended (inl e) h k = subst P (sym e) h
+by_either P s ended (inr e) h k = subst P (sym e) k
+
+-- a run of what the words ask for, and its line
+pub finished_noted : (p : Predicates) (words : List (List ℕ)) (q : Query) (old new : Folder) (before now noted_before noted_now : Sink) (s ended : Status)
+    → asked words ≡ Some q → Ended p words old new before now s → NotesOf (names_of q.tables) noted_before noted_now s ended
+    → Finished p words old new before now noted_before noted_now ended
+finished_noted p words q old new before now noted_before noted_now s ended e h n = record {
+  ended = by_either (λ (t : Status). Ended p words old new before now t) s ended n.either h (ended_memory p words old new before now s h);
+  usage = λ none. absurd (never (sym none ∙ e));
+  silent = n.silent;
+  noted = λ other. subst (λ (names : List (List ℕ)). IsNoted noted_before noted_now (line_of names ended)) (sym names) (n.noted other);
+}
+  where
+    never : ◌≡◌ {A = Option Query} None (Some q) → ⊥
+    never f = cc
+
+    names : names_asked words ≡ names_of q.tables
+    names = rw e refl
+
+-- words out of form, or want of memory for them, and its line
+same_line : (names : List (List ℕ)) (s : Status) → (s ≡ status.Usage) ⊎ (s ≡ status.Memory) → line_of [] s ≡ line_of names s
+unfolding line_of
+same_line names s (inl e) = rw e refl
+same_line names s (inr e) = rw e refl
+
+pub finished_usage : (p : Predicates) (words : List (List ℕ)) (old : Folder) (before noted_before noted_now : Sink) (s ended : Status)
+    → (s ≡ status.Memory) ⊎ ((s ≡ status.Usage) × (asked words ≡ None)) → NotesOf [] noted_before noted_now s ended
+    → Finished p words old old before before noted_before noted_now ended
+finished_usage p words old before noted_before noted_now s ended why n = record {
+  ended = ends why;
+  usage = λ none. which why;
+  silent = n.silent;
+  noted = λ other. subst (λ (line : List ℕ). IsNoted noted_before noted_now line) (same_line (names_asked words) ended (which why)) (n.noted other);
+}
+  where
+    ends : (s ≡ status.Memory) ⊎ ((s ≡ status.Usage) × (asked words ≡ None)) → Ended p words old old before before ended
+    ends (inl e) = by_either (λ (t : Status). Ended p words old old before before t) s ended n.either
+        (subst (λ (t : Status). Ended p words old old before before t) (sym e) (ended_early p words old before)) (ended_early p words old before)
+    ends (inr h) = by_either (λ (t : Status). Ended p words old old before before t) s ended n.either
+        (subst (λ (t : Status). Ended p words old old before before t) (sym h.0) (ended_usage p words old before h.1)) (ended_early p words old before)
+
+    which : (s ≡ status.Memory) ⊎ ((s ≡ status.Usage) × (asked words ≡ None)) → (ended ≡ status.Usage) ⊎ (ended ≡ status.Memory)
+    which (inl e) = elim n.either [ inl f ↦ inr (f ∙ e) | inr f ↦ inr f ]
+    which (inr h) = elim n.either [ inl f ↦ inl (f ∙ h.0) | inr f ↦ inr f ]
+
+-- ---- beside the one outcome
+
+pub complete_of : (p : Predicates) (words : List (List ℕ)) (old new : Folder) (before now : Sink) (s : Status) → Ended p words old new before now s
+    → (files : List File) → old.holds ≡ Some files → ¬ (RoseOrFull old.faults new.faults) → ¬ (RoseOrFull before.faults now.faults)
+    → (due : Result (List ℕ) Status) → IsOutcome p words files due → (s ≡ status_of due) ⊎ (s ≡ status.Memory)
+complete_of p words old new before now s h files told calm quiet due d =
+    ends_by_outcome (λ f. RoseOrFull old.faults new.faults × ReachedBy words files f) (RoseOrFull before.faults now.faults) (IsOutcome p words files) s (h.ends files told)
+    (λ f k. calm k.0) quiet (same_outcome p words files) due d
+
+pub front_of : (p : Predicates) (words : List (List ℕ)) (old new : Folder) (before now : Sink) (s : Status) → Ended p words old new before now s
+    → (files : List File) → old.holds ≡ Some files → (due : Result (List ℕ) Status) → IsOutcome p words files due
+    → AddsFront before.written now.written (text_due due)
+front_of p words old new before now s h files told due d = by (h.front files told)
+  where
+    by : (now.written ≡ before.written) ⊎ ((text : List ℕ) × IsOutcome p words files (Ok text) × AddsFront before.written now.written text)
+        → AddsFront before.written now.written (text_due due)
+    by (inl e) = subst (λ (w : Option (List ℕ)). AddsFront before.written w (text_due due)) (sym e) (AddsFront-nothing before.written (text_due due))
+    by (inr k) = subst (λ (t : List ℕ). AddsFront before.written now.written t) (ap text_due (same_outcome p words files (Ok k.0) due k.1 d)) k.2

@@ -1,122 +1,118 @@
--- What a run must answer: the outcome of words over files is the text of the answer, or the first refusal.
-use Rattle.std.specs.Prelude.{◌≡◌, ◌<◌, ℕ, ◌+◌, nat_lt, List, [], ◌∷◌, length, take, Option, Some, None, Result, Ok, Err, IsOk, slice_get, if◌then◌else◌, ⊤}
-use Rattle.std.specs.Option.{option_map_or}
+-- What a run must answer: the outcome of words over files is the text of the answers, or the first refusal.
+use Rattle.std.specs.Prelude.{◌≡◌, ◌<◌, ℕ, ◌+◌, List, [], ◌∷◌, ◌++◌, length, take, Option, Some, Result, Ok, Err, IsOk, ⊤}
+use Rattle.std.specs.List.{flat_map}
 use Rattle.sq_value.specs.Relation.{Relation}
-use Rattle.sq_value.specs.declared.table.Column.{Column}
+use Rattle.sq_value.specs.declared.value.Value.{Value}
+use Rattle.sq_value.specs.declared.value.Truth.{Truth}
+use Rattle.sq_value.specs.declared.predicate.Kinds.{Kinds}
+use Rattle.sq_expr.specs.declared.block.Access.{Access}
 use Rattle.sq_expr.specs.declared.block.Block.{Block}
 use Rattle.bag_meaning.specs.Answer.{answer, answer_text}
-use Rattle.outside.specs.Files.{File, lookup}
+use Rattle.outside.specs.Files.{File}
+use Rattle.sq_parse.specs.Fault.{ReadsAs}
 use Rattle.sq_parse.specs.declared.parser.ParseFault.{ParseFault}
-use Rattle.sq_parse.specs.declared.parser.ParseFault.TheVariants.{Syntax}
 use Rattle.sq_parse.specs.declared.tree.Script.{Script}
-use Rattle.eddyql.specs.Words.{TableWord, Command, command}
-use Rattle.eddyql.specs.EarlyScript.{JoinQuery, early_script}
-use Rattle.eddyql.specs.ScriptText.{ScriptReadsAs, or_fault}
-use Rattle.eddyql.specs.EarlyTable.{early_table}
-use Rattle.eddyql.specs.EarlyJoin.{no_meaning}
-use Rattle.eddyql.specs.EarlyBinding.{block_of}
+use Rattle.sq_parse.specs.declared.tree.Statement.{Statement}
+use Rattle.catalogue.specs.Named.{NamedTables}
+use Rattle.sq_bind.specs.Answer as binding
+use Rattle.sq_bind.specs.Condition.{Calls, calling}
+use Rattle.sq_bind.specs.Given.{over}
+use Rattle.sq_bind.specs.Statement.{Scope}
+use Rattle.sq_bind.specs.declared.fault.BindFault.{BindFault}
+use Rattle.command_line.specs.declared.command.Query.{Query}
+use Rattle.command_line.specs.declared.command.TableWord.{TableWord}
+use Rattle.eddyql.specs.Asked.{asked}
+use Rattle.eddyql.specs.Faults.{script_status, bind_status}
+use Rattle.eddyql.specs.Files.{file_read, tables_read, catalogue_read}
+use Rattle.eddyql.specs.Accesses.{accesses_read}
+use Rattle.eddyql.specs.Steps.{AndThen, ComesTo, or_refuse, or_fault}
 use Rattle.eddyql.specs.declared.plan.Plan.{Plan}
 use Rattle.eddyql.specs.declared.status.Status.{Status}
 use Rattle.eddyql.specs.declared.status.Status.TheVariants as status
 use Rattle.eddyql.specs.declared.status.FileOf.{FileOf}
 use Rattle.eddyql.specs.declared.status.FileOf.TheVariants as file
-use Rattle.eddyql.specs.declared.status.TableFault.TheVariants.{NoHeading}
-use Rattle.eddyql.specs.declared.status.BindFault.TheVariants.{UnknownColumn}
 
--- the value of an option, or else a refusal
-abbrev pub or_refuse : {A : Type 0} → Status → Option A → Result A Status
-or_refuse refusal None = Err refusal
-or_refuse refusal (Some x) = Ok x
+-- the predicates that are handed in: their names, numbers and types, and their stated meaning
+pub record Predicates : Type 0 where
+  pub calls : Calls
+  pub gives : ℕ → Value → Value → Truth
 
--- one step after another, up to the first refusal
-infixl 10 ◌>>=◌
-abbrev pub ◌>>=◌ : {A B : Type 0} → Result A Status → (A → Result B Status) → Result B Status
-Err refusal >>= more = Err refusal
-Ok x >>= more = more x
+abbrev pub predicates : (List ℕ → Option ℕ) → (ℕ → Option Kinds) → (ℕ → Value → Value → Truth) → Predicates
+predicates number kinds gives = record { calls = calling number kinds; gives = gives }
 
--- the table of the file of this name; tables count from 0
-abbrev pub table_read : ℕ → List File → TableWord → Result Relation Status
-table_read number files t = do
-  bytes ← or_refuse (status.NotFound (file.Table number)) (lookup files t.file)
-  or_refuse (status.BadTable number NoHeading) (early_table bytes)
+-- what a text is as a script: the script that it spells, or its fault
+abbrev pub IsSpelled : List ℕ → Result Script Status → Type 0
+IsSpelled text due = (read : Result Script ParseFault) × ReadsAs text read × (due ≡ or_fault script_status read)
 
--- the tables of these words, in order, the first of them with this number
-unfoldable pub tables_read : ℕ → List File → List TableWord → Result (List Relation) Status
-tables_read number files [] = Ok []
-tables_read number files (t ∷ ts) = do
-  table ← table_read number files t
-  tables ← tables_read (number + 1) files ts
-  Ok (table ∷ tables)
+-- the script of the file of this name
+abbrev pub IsScript : List File → List ℕ → Result Script Status → Type 0
+IsScript files name due = AndThen (ComesTo (file_read file.Script files name)) IsSpelled due
 
--- the join that a text that reads as this asks for over these tables: it spells a script, and that is in the early form
-abbrev pub join_spelled : Result Script ParseFault → List TableWord → List ℕ → Result JoinQuery Status
-join_spelled read tables text = do
-  script ← or_fault read
-  or_refuse (status.Script (Syntax 0)) (early_script tables text)
+-- what a statement is bound to: its block, or its fault; statements count from 1
+abbrev pub IsBlock : Scope → ℕ → Statement → Result Block Status → Type 0
+IsBlock scope number s (Ok block) = binding.IsBound scope s block
+IsBlock scope number s (Err refusal) =
+    (f : BindFault) × binding.IsBindFault scope s f × (refusal ≡ bind_status number f)
 
--- the same, where the text has at most 67,108,864 bytes; a longer one isn't read
-unfoldable pub join_read : Result Script ParseFault → List TableWord → List ℕ → Result JoinQuery Status
-join_read read tables text = if nat_lt 67108864 (length text) then Err (status.Script (Syntax 0)) else join_spelled read tables text
+-- what statements are bound to, in order, the first of them with this number
+unfoldable pub AreBlocks : Scope → ℕ → List Statement → Result (List Block) Status → Type 0
+AreBlocks scope number [] due = due ≡ Ok []
+AreBlocks scope number (s ∷ more) due =
+    AndThen (IsBlock scope number s)
+    (λ block. AndThen (AreBlocks scope (number + 1) more) (λ blocks. ComesTo (Ok (block ∷ blocks)))) due
 
--- the join that the script of a command asks for
-abbrev pub query_read : Result Script ParseFault → Command → List File → Result JoinQuery Status
-query_read read c files = do
-  text ← or_refuse (status.NotFound file.Script) (lookup files c.script)
-  join_read read c.tables text
+-- the plan of a script over a catalogue: the accesses' columns are found, and then all statements are bound
+abbrev pub IsBoundPlan : Predicates → Query → Script → NamedTables → Result Plan Status → Type 0
+IsBoundPlan p q script catalogue due =
+    AndThen (ComesTo (accesses_read catalogue.tables q.accesses))
+    (λ accesses. AndThen (AreBlocks (over catalogue accesses p.calls) 1 script.statements)
+    (λ blocks. ComesTo (Ok record { blocks = blocks; catalogue = catalogue }))) due
 
--- the columns of a table
-abbrev pub columns_at : List Relation → ℕ → List Column
-columns_at tables table = option_map_or (λ (t : Relation). t.columns) (slice_get tables table) []
+-- what is to be run: the script is read first, and then the tables in order
+unfoldable pub IsPlan : Predicates → Query → List File → Result Plan Status → Type 0
+IsPlan p q files due =
+    AndThen (IsScript files q.script)
+    (λ script. AndThen (ComesTo (catalogue_read files q.tables)) (λ catalogue. IsBoundPlan p q script catalogue)) due
 
--- the block of a join over the tables
-abbrev pub block_bound : JoinQuery → List Relation → Result Block Status
-block_bound query tables =
-    or_refuse (status.Bind 1 (UnknownColumn 0)) (block_of query (columns_at tables query.left) (columns_at tables query.right))
+-- the text of a block's answer
+abbrev pub block_text : (ℕ → Value → Value → Truth) → List Relation → Block → List ℕ
+block_text gives tables block = answer_text block tables (answer gives block tables)
 
--- the plan of a command over files: the script is read first, then the tables in order, then the columns are bound
-unfoldable pub plan_of : Result Script ParseFault → Command → List File → Result Plan Status
-plan_of read c files = do
-  query ← query_read read c files
-  tables ← tables_read 0 files c.tables
-  block ← block_bound query tables
-  Ok record { block = block; tables = tables }
+-- the text of an answer behind others, with one empty line before it
+abbrev pub behind_line : (ℕ → Value → Value → Truth) → List Relation → Block → List ℕ
+behind_line gives tables block = 10 ∷ block_text gives tables block
+
+-- the texts of all answers, in order, with one empty line between two
+unfoldable pub text_of : (ℕ → Value → Value → Truth) → List Relation → List Block → List ℕ
+text_of gives tables [] = []
+text_of gives tables (block ∷ more) = block_text gives tables block ++ flat_map (behind_line gives tables) more
+
+-- the outcome of words over files: the text that is due, or the first refusal
+abbrev pub IsOutcome : Predicates → List (List ℕ) → List File → Result (List ℕ) Status → Type 0
+IsOutcome p words files due =
+    AndThen (ComesTo (or_refuse status.Usage (asked words)))
+    (λ q. AndThen (IsPlan p q files) (λ plan. ComesTo (Ok (text_of p.gives plan.catalogue.tables plan.blocks)))) due
 
 -- whether a file is one of these tables, and all tables before it are there and in form
 abbrev pub ReachedTable : List File → List TableWord → FileOf → Type 0
 ReachedTable files tables file.Script = ⊥
-ReachedTable files tables (file.Table number) = (number < length tables) × IsOk (tables_read 0 files (take number tables))
+ReachedTable files tables (file.Table number) =
+    (number < length tables) × IsOk (tables_read 0 files (take number tables))
 
--- whether nothing refuses before a file of a command is loaded: the script is loaded first, then the tables in order
-abbrev pub Reached : Result Script ParseFault → Command → List File → FileOf → Type 0
-Reached read c files file.Script = ⊤
-Reached read c files (file.Table number) = IsOk (query_read read c files) × ReachedTable files c.tables (file.Table number)
+-- nothing refuses before a file is loaded: the script is loaded first, then the tables in order
+abbrev pub Reached : Query → List File → FileOf → Type 0
+Reached q files file.Script = ⊤
+Reached q files (file.Table number) =
+    ((script : Script) × IsScript files q.script (Ok script)) × ReachedTable files q.tables (file.Table number)
 
 -- the same of words
 pub record ReachedBy (words : List (List ℕ)) (files : List File) (f : FileOf) : Type 0 where
-  pub asked : Command
-  pub in_form : command words ≡ Some asked
-  pub read : Result Script ParseFault
-  pub reads : ScriptReadsAs asked files read
-  pub reached : Reached read asked files f
+  pub query : Query
+  pub in_form : asked words ≡ Some query
+  pub reached : Reached query files f
 
--- the text that a plan's answer has
-abbrev pub text_of : Plan → List ℕ
-text_of plan = answer_text plan.block plan.tables (answer no_meaning plan.block plan.tables)
-
--- the outcome of words over files, where their script reads as this
-unfoldable pub outcome : Result Script ParseFault → List (List ℕ) → List File → Result (List ℕ) Status
-outcome read words files = do
-  c ← or_refuse status.Usage (command words)
-  plan ← plan_of read c files
-  Ok (text_of plan)
-
--- the outcome of words over files: a text that is due, or the first refusal
-pub record IsOutcome (words : List (List ℕ)) (files : List File) (due : Result (List ℕ) Status) : Type 0 where
-  pub read : Result Script ParseFault
-  pub reads : (c : Command) → command words ≡ Some c → ScriptReadsAs c files read
-  pub is : due ≡ outcome read words files
-
--- the law that there is one outcome
+-- the law that words over files have one outcome
 abbrev pub OneOutcome : Type 0
-OneOutcome = (words : List (List ℕ)) (files : List File)
-    → (due : Result (List ℕ) Status) × IsOutcome words files due × ((other : Result (List ℕ) Status) → IsOutcome words files other → other ≡ due)
+OneOutcome = (p : Predicates) (words : List (List ℕ)) (files : List File)
+    → (due : Result (List ℕ) Status) × IsOutcome p words files due
+    × ((other : Result (List ℕ) Status) → IsOutcome p words files other → other ≡ due)

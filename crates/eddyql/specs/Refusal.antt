@@ -1,28 +1,23 @@
 -- Serves proofs, but for `UnlessReadOrMemory`: when a step may refuse, beside its definition.
-use Rattle.std.specs.Prelude.{◌≡◌, ◌≢◌, Result, Err, MatchOption, ⊤}
-use Rattle.sq_parse.specs.declared.parser.ParseFault.TheVariants as parser
+use Rattle.std.specs.Prelude.{◌≡◌, MatchOption, ⊤}
+use Rattle.eddyql.specs.Faults.{IsPlaced}
 use Rattle.eddyql.specs.Stage.{stage_of, file_unread}
 use Rattle.eddyql.specs.declared.status.FileOf.{FileOf}
 use Rattle.eddyql.specs.declared.status.Stage.{Stage}
 use Rattle.eddyql.specs.declared.status.Stage.TheVariants as stage
 use Rattle.eddyql.specs.declared.status.Status.{Status}
-use Rattle.eddyql.specs.declared.status.Status.TheVariants.{Script, NotFound}
+use Rattle.eddyql.specs.declared.status.Status.TheVariants.{NotFound}
 
 -- a step refuses at this stage: want of memory is free, and any other refusal is the expected one
-abbrev pub RefusesAt : {A : Type 0} → Stage → Result A Status → Status → Type 0
-RefusesAt stage.Memory expected s = ⊤
-RefusesAt stage.Run expected s = ⊥
-RefusesAt stage.Output expected s = ⊥
-RefusesAt _ expected s = expected ≡ Err s
+abbrev pub RefusesAt : Stage → Type 0 → Type 0
+RefusesAt stage.Memory expected = ⊤
+RefusesAt stage.Run expected = ⊥
+RefusesAt stage.Output expected = ⊥
+RefusesAt _ expected = expected
 
--- a step that should answer `expected` may refuse so: a read fault of a file has its reason, and any other status goes
--- by its stage
-abbrev pub MayRefuse : {A : Type 0} → (FileOf → Type 0) → Result A Status → Status → Type 0
-MayRefuse reads expected s = MatchOption (file_unread s) (RefusesAt (stage_of s) expected s) reads
-
--- no file has a read fault
-abbrev pub never : FileOf → Type 0
-never file = ⊥
+-- a step may refuse so: a read fault of a file has its reason, and any other status is expected, but for want of memory
+abbrev pub MayRefuse : (FileOf → Type 0) → Type 0 → Status → Type 0
+MayRefuse reads expected s = MatchOption (file_unread s) (RefusesAt (stage_of s) expected) reads
 
 -- the stages at which a step between the words and the output may end
 abbrev pub IsBetween : Stage → Type 0
@@ -31,15 +26,16 @@ IsBetween stage.Run = ⊥
 IsBetween stage.Output = ⊥
 IsBetween _ = ⊤
 
--- want of memory is no fault of the script, and a file isn't there only where the folder tells what it holds
+-- a file isn't there only where the folder tells what it holds
 abbrev pub IsFounded : Type 0 → Status → Type 0
-IsFounded told (Script fault) = fault ≢ parser.Memory
 IsFounded told (NotFound file) = told
 IsFounded told _ = ⊤
 
 -- what a step between the words and the output may answer in any folder
-abbrev pub IsEarly : Type 0 → Status → Type 0
-IsEarly told s = IsBetween (stage_of s) × IsFounded told s
+pub record IsEarly (told : Type 0) (s : Status) : Type 0 where
+  pub between : IsBetween (stage_of s)
+  pub founded : IsFounded told s
+  pub placed : IsPlaced s
 
 -- what holds of a status but for want of memory
 abbrev pub HoldsAt : Stage → Type 0 → Type 0

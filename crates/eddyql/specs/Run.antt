@@ -1,5 +1,5 @@
 -- How a run may end, beside the outcome of its words over the files.
-use Rattle.std.specs.Prelude.{◌≡◌, ℕ, List, [], Result, Ok, Err, IsOk, MatchOption, ⊤}
+use Rattle.std.specs.Prelude.{◌≡◌, ℕ, List, [], Result, Ok, Err, MatchOption, ⊤}
 use Rattle.eddyql.specs.Stage.{stage_of, file_unread}
 use Rattle.eddyql.specs.declared.status.FileOf.{FileOf}
 use Rattle.eddyql.specs.declared.status.Stage.{Stage}
@@ -8,16 +8,16 @@ use Rattle.eddyql.specs.declared.status.Status.{Status}
 use Rattle.eddyql.specs.declared.status.Status.TheVariants.{Done}
 
 -- a run ends at this stage: done, or by a fault of the output that has its reason, where a text is due; for want of
--- memory at any time; and by any other refusal exactly where the outcome is this one
-abbrev pub EndsAt : Stage → Type 0 → Result (List ℕ) Status → Status → Type 0
-EndsAt stage.Run writes due s = IsOk due
-EndsAt stage.Output writes due s = writes × IsOk due
-EndsAt stage.Memory writes due s = ⊤
-EndsAt _ writes due s = due ≡ Err s
+-- memory at any time; and by any other refusal only where that is due
+abbrev pub EndsAt : Stage → Type 0 → (Result (List ℕ) Status → Type 0) → Status → Type 0
+EndsAt stage.Run writes IsDue s = (text : List ℕ) × IsDue (Ok text)
+EndsAt stage.Output writes IsDue s = writes × ((text : List ℕ) × IsDue (Ok text))
+EndsAt stage.Memory writes IsDue s = ⊤
+EndsAt _ writes IsDue s = IsDue (Err s)
 
 -- a run may end so: by a read fault of a file that has its reason, and by any other status as its stage says
-abbrev pub MayEnd : (FileOf → Type 0) → Type 0 → Result (List ℕ) Status → Status → Type 0
-MayEnd reads writes due s = MatchOption (file_unread s) (EndsAt (stage_of s) writes due s) reads
+abbrev pub MayEnd : (FileOf → Type 0) → Type 0 → (Result (List ℕ) Status → Type 0) → Status → Type 0
+MayEnd reads writes IsDue s = MatchOption (file_unread s) (EndsAt (stage_of s) writes IsDue s) reads
 
 -- the status of an outcome
 abbrev pub status_of : Result (List ℕ) Status → Status

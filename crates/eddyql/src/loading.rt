@@ -1,150 +1,154 @@
 //! Loads the files that the words name, and reads the tables.
 
-ghost use Rattle.std.specs.Prelude.{◌≡◌, ◌<◌, ◌≤◌, ℕ, List, Some, None, Ok, IsSome, IfOk, IfErr, OnOk, All, map, length};
-ghost use Rattle.std.specs.String.{string_bytes};
-ghost use Rattle.outside.specs.Files.{File, Gives};
-ghost use Rattle.outside.specs.Faults.{NeverFalls, Rose};
-ghost use Rattle.eddyql.specs.Words.{table_of_word};
-ghost use Rattle.eddyql.specs.EarlyTable.{early_table};
-ghost use Rattle.eddyql.specs.Outcome.{table_read, tables_read, or_refuse, ReachedTable};
-ghost use Rattle.eddyql.specs.Refusal.{MayRefuse, IsEarly, UnlessReadOrMemory, never};
-ghost use Rattle.eddyql.specs.EarlyLoaded.{LoadRefused, IsIntegerTable, AddsTable};
-ghost use Rattle.eddyql.specs.declared.status.FileOf.{FileOf};
-ghost use Rattle.eddyql.specs.declared.status.FileOf.TheVariants as file;
-ghost use Rattle.eddyql.specs.declared.status.Status.TheVariants as status;
-ghost use Rattle.eddyql.specs.declared.status.TableFault.TheVariants as fault;
+ghost use Rattle.std.specs.Prelude.{◌≡◌, ◌<◌, ◌≤◌, List, Some, Ok, Err, IfOk, IfErr, OnOk, length};
+ghost use Rattle.outside.specs.Files.{File};
+ghost use Rattle.table_csv.specs.TableFile.{table_of_bytes};
+ghost use Rattle.eddyql.specs.Doing.{Went, Stopped, Refuses};
+ghost use Rattle.eddyql.specs.Faults as faults;
+ghost use Rattle.eddyql.specs.Files.{file_read, table_read, catalogue_read};
+ghost use Rattle.eddyql.specs.Loaded as loaded;
+ghost use Rattle.eddyql.specs.Loaded.{AddsTable};
+ghost use Rattle.eddyql.specs.Outcome.{ReachedTable};
+ghost use Rattle.eddyql.specs.Seen.{folder_seen};
+ghost use Rattle.eddyql.specs.Steps.{ComesTo, or_fault};
+ghost use Rattle.eddyql.specs.declared.status.FileOf.TheVariants as file_of;
 
-use crate::reading::{ReadFault, read_table};
-use crate::status::{FileOf, Status, TableFault};
-use crate::words::file_of;
+use crate::refusing::table_status;
+use crate::status::{FileOf, LimitOf, Status};
+use catalogue::Catalogue;
+use command_line::TableWord;
 use outside::{Folder, LoadFault};
-use sq_value::{Table, Tables};
+use sq_value::Table;
 use std::alloc::Global;
+use table_csv::read_table;
 
-/// The most bytes that are asked for: one more than a file may have.
-const LIMIT: usize = 67_108_865;
+/// The most bytes that a file may have.
+const MOST_BYTES: usize = 67_108_864;
 
-/// Loads the first bytes of a file, at most one more than a file may have.
+// The status of a load that failed.
+fn load_status(fault: LoadFault, file: FileOf) -> Status
+    ensures { result ≡ loaded.load_status file fault }
+{
+    match fault {
+        LoadFault::Absent => Status::NotFound { file },
+        LoadFault::Failed => Status::Read { file },
+        LoadFault::Memory => Status::Memory,
+    }
+}
+
+/// Loads a file of at most 67,108,864 bytes. One more is asked for.
+///
+/// # Errors
+/// `NotFound`, `Read`, or `Limit` of the file; or `Memory`.
 pub fn load<F: Folder>(
     alloc: Global,
     folder: &mut F,
     name: &str,
     file: FileOf,
 ) -> Result<Vec<u8>, Status>
-    ensures keeps { F.holds folder.new ≡ F.holds folder.old }
-    ensures counts { NeverFalls (F.faults folder.old) (F.faults folder.new) }
-    ensures kept { OnOk result (F.faults folder.new ≡ F.faults folder.old) }
-    ensures refused_kept { IfErr result (λ s. UnlessReadOrMemory s (F.faults folder.new ≡ F.faults folder.old)) }
-    ensures gives { IfOk result (λ bytes. Gives (F.holds folder.old) name.now 67108865 bytes.items) }
-    ensures refused { IfErr result (LoadRefused (F.holds folder.old) name.now file (Rose (F.faults folder.old)
-        (F.faults folder.new))) }
+    ensures went { IfOk result (λ bytes.
+        Went (folder_seen (F.holds folder.old) (F.faults folder.old))
+        (folder_seen (F.holds folder.new) (F.faults folder.new))
+        (λ files. ComesTo (file_read file files name.now) (Ok bytes.items))) }
+    ensures short { IfOk result (λ bytes. length bytes.items ≤ 67108864) }
+    ensures stopped { IfErr result (λ s.
+        Stopped (folder_seen (F.holds folder.old) (F.faults folder.old))
+        (folder_seen (F.holds folder.new) (F.faults folder.new))
+        (λ files. ComesTo (file_read file files name.now) (Err s)) (λ files f. f ≡ file) s) }
 {
-    match folder.load(alloc, name, LIMIT) {
-        Ok(bytes) => Ok(bytes),
-        Err(LoadFault::Absent) => Err(Status::NotFound { file }),
-        Err(LoadFault::Failed) => Err(Status::Read { file }),
-        Err(LoadFault::Memory) => Err(Status::Memory),
+    match folder.load(alloc, name, MOST_BYTES + 1) {
+        Ok(bytes) => {
+            if bytes.len() > MOST_BYTES {
+                return Err(Status::Limit {
+                    of: LimitOf::File { file },
+                });
+            }
+            Ok(bytes)
+        }
+        Err(fault) => Err(load_status(fault, file)),
     }
 }
 
-// Reads the bytes of a table.
+// The table of a file's bytes.
 fn table_of(alloc: Global, bytes: &[u8], number: u32) -> Result<Table, Status>
-    ensures ok { IfOk result (λ table. early_table bytes.now ≡ Some table) }
-    ensures refused { IfErr result (MayRefuse never (or_refuse (status.BadTable number fault.NoHeading)
-        (early_table bytes.now))) }
-    ensures early { IfErr result (IsEarly ⊥) }
+    ensures ok { IfOk result (λ table. table_of_bytes bytes.now ≡ Ok table) }
+    ensures refused { IfErr result (λ s.
+        Refuses (ComesTo (or_fault (faults.table_status number) (table_of_bytes bytes.now)) (Err s)) s) }
 {
     match read_table(alloc, bytes) {
         Ok(table) => Ok(table),
-        Err(ReadFault::NotATable) => Err(Status::BadTable {
-            table: number,
-            fault: TableFault::NoHeading,
-        }),
-        Err(ReadFault::Memory) => Err(Status::Memory),
+        Err(fault) => Err(table_status(number, fault)),
     }
 }
 
-// Loads and reads the table of a word.
+// Loads and reads the table of a file.
 fn load_table<F: Folder>(
     alloc: Global,
     folder: &mut F,
-    word: &str,
+    name: &str,
     number: u32,
 ) -> Result<Table, Status>
-    ensures keeps { F.holds folder.new ≡ F.holds folder.old }
-    ensures counts { NeverFalls (F.faults folder.old) (F.faults folder.new) }
-    ensures kept { OnOk result (F.faults folder.new ≡ F.faults folder.old) }
-    ensures refused_kept { IfErr result (λ s. UnlessReadOrMemory s (F.faults folder.new ≡ F.faults folder.old)) }
-    ensures told { IfOk result (λ table. (files : List File) → F.holds folder.old ≡ Some files
-        → table_read number files (table_of_word word.now) ≡ Ok table) }
-    ensures integers { IfOk result IsIntegerTable }
-    ensures refused { IfErr result (λ s. (files : List File) → F.holds folder.old ≡ Some files
-        → MayRefuse (λ f. Rose (F.faults folder.old) (F.faults folder.new)
-        × (f ≡ file.Table number)) (table_read number files (table_of_word word.now)) s) }
-    ensures read { IfErr result (λ s. (f : FileOf) → s ≡ status.Read f
-        → Rose (F.faults folder.old) (F.faults folder.new)) }
-    ensures early { IfErr result (IsEarly (IsSome (F.holds folder.old))) }
+    ensures went { IfOk result (λ table.
+        Went (folder_seen (F.holds folder.old) (F.faults folder.old))
+        (folder_seen (F.holds folder.new) (F.faults folder.new))
+        (λ files. ComesTo (table_read number files name.now) (Ok table))) }
+    ensures stopped { IfErr result (λ s.
+        Stopped (folder_seen (F.holds folder.old) (F.faults folder.old))
+        (folder_seen (F.holds folder.new) (F.faults folder.new))
+        (λ files. ComesTo (table_read number files name.now) (Err s)) (λ files f. f ≡ file_of.Table number) s) }
 {
-    match load(alloc, folder, file_of(word), FileOf::Table(number)) {
-        Ok(bytes) => table_of(alloc, bytes.as_slice(), number),
-        Err(refusal) => Err(refusal),
-    }
+    let bytes = load(alloc, folder, name, FileOf::Table(number))?;
+    table_of(alloc, bytes.as_slice(), number)
 }
 
-// Puts the table of a word behind the others.
+// Puts the table of a word behind the others. The names differ, so only memory may be wanting there.
 fn push_table<F: Folder>(
     alloc: Global,
     folder: &mut F,
-    word: &str,
+    word: &TableWord,
     number: u32,
-    tables: &mut Tables,
+    catalogue: &mut Catalogue,
 ) -> Result<(), Status>
-    requires { length tables.old < 4294967295 }
-    ensures keeps { F.holds folder.new ≡ F.holds folder.old }
-    ensures counts { NeverFalls (F.faults folder.old) (F.faults folder.new) }
-    ensures kept { OnOk result (F.faults folder.new ≡ F.faults folder.old) }
-    ensures refused_kept { IfErr result (λ s. UnlessReadOrMemory s (F.faults folder.new ≡ F.faults folder.old)) }
-    ensures added { OnOk result (AddsTable (F.holds folder.old) number word.now tables.old tables.new) }
-    ensures refused { IfErr result (λ s. (files : List File) → F.holds folder.old ≡ Some files
-        → MayRefuse (λ f. Rose (F.faults folder.old) (F.faults folder.new)
-        × (f ≡ file.Table number)) (table_read number files (table_of_word word.now)) s) }
-    ensures read { IfErr result (λ s. (f : FileOf) → s ≡ status.Read f
-        → Rose (F.faults folder.old) (F.faults folder.new)) }
-    ensures early { IfErr result (IsEarly (IsSome (F.holds folder.old))) }
+    requires { length catalogue.old.tables < 4294967295 }
+    ensures added { OnOk result
+        (AddsTable (folder_seen (F.holds folder.old) (F.faults folder.old))
+        (folder_seen (F.holds folder.new) (F.faults folder.new))
+        number word.now catalogue.old catalogue.new) }
+    ensures stopped { IfErr result (λ s.
+        Stopped (folder_seen (F.holds folder.old) (F.faults folder.old))
+        (folder_seen (F.holds folder.new) (F.faults folder.new))
+        (λ files. ComesTo (table_read number files word.now.file) (Err s)) (λ files f. f ≡ file_of.Table number) s) }
 {
-    let table = load_table(alloc, folder, word, number)?;
-    match tables.push(table) {
-        Ok(()) => Ok(()),
+    let table = load_table(alloc, folder, word.file.as_str(), number)?;
+    match catalogue.add(word.name.as_str(), table) {
+        Ok(_) => Ok(()),
         Err(_) => Err(Status::Memory),
     }
 }
 
 /// Loads and reads the tables of the words, in order, up to the first refusal.
+///
+/// # Errors
+/// `NotFound`, `Read`, `BadTable`, or `Limit` of a table or its file; or `Memory`.
 pub fn load_tables<F: Folder>(
     alloc: Global,
     folder: &mut F,
-    words: &[String],
-) -> Result<Tables, Status>
+    words: &[TableWord],
+) -> Result<Catalogue, Status>
     requires { length words.now ≤ 16 }
-    ensures keeps { F.holds folder.new ≡ F.holds folder.old }
-    ensures counts { NeverFalls (F.faults folder.old) (F.faults folder.new) }
-    ensures kept { OnOk result (F.faults folder.new ≡ F.faults folder.old) }
-    ensures refused_kept { IfErr result (λ s. UnlessReadOrMemory s (F.faults folder.new ≡ F.faults folder.old)) }
-    ensures count { IfOk result (λ tables. length tables ≡ length words.now) }
-    ensures integers { IfOk result (All IsIntegerTable) }
-    ensures told { IfOk result (λ tables. (files : List File) → F.holds folder.old ≡ Some files
-        → tables_read 0 files (map table_of_word (map string_bytes words.now)) ≡ Ok tables) }
-    ensures refused { IfErr result (λ s. (files : List File) → F.holds folder.old ≡ Some files
-        → MayRefuse (λ f. Rose (F.faults folder.old) (F.faults folder.new)
-        × ReachedTable files (map table_of_word (map string_bytes words.now)) f)
-        (tables_read 0 files (map table_of_word (map string_bytes words.now))) s) }
-    ensures read { IfErr result (λ s. (f : FileOf) → s ≡ status.Read f
-        → Rose (F.faults folder.old) (F.faults folder.new)) }
-    ensures early { IfErr result (IsEarly (IsSome (F.holds folder.old))) }
+    ensures went { IfOk result (λ catalogue.
+        Went (folder_seen (F.holds folder.old) (F.faults folder.old))
+        (folder_seen (F.holds folder.new) (F.faults folder.new))
+        (λ files. ComesTo (catalogue_read files words.now) (Ok catalogue))) }
+    ensures count { IfOk result (λ catalogue. length catalogue.tables ≡ length words.now) }
+    ensures stopped { IfErr result (λ s.
+        Stopped (folder_seen (F.holds folder.old) (F.faults folder.old))
+        (folder_seen (F.holds folder.new) (F.faults folder.new))
+        (λ files. ComesTo (catalogue_read files words.now) (Err s)) (λ files. ReachedTable files words.now) s) }
 {
-    let mut tables = Tables::new(alloc);
+    let mut catalogue = Catalogue::new(alloc);
     for (index, word) in words.iter().enumerate() {
-        push_table(alloc, folder, word.as_str(), index as u32, &mut tables)?;
+        push_table(alloc, folder, word, index as u32, &mut catalogue)?;
     }
-    Ok(tables)
+    Ok(catalogue)
 }

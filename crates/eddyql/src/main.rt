@@ -4,21 +4,22 @@
 
 ghost use Rattle.std.specs.Prelude.{◌≡◌, ◌⊎◌};
 
-mod binding;
-mod join;
+mod accesses;
+mod answering;
+mod asking;
 mod loading;
+mod noting;
 mod plan;
 mod preparing;
 mod program;
-mod reading;
+mod refusing;
 mod run;
-mod script;
 mod status;
-mod words;
-mod writing;
 
+use noting::put_note;
 use outside::{RealFolder, RealSink};
 use program::{all_words, code_for, program};
+use sq_value::NoPredicates;
 use status::Status;
 use std::io;
 use std::process::ExitCode;
@@ -40,13 +41,23 @@ fn status_without_words(error: &io::Error) -> Status
 }
 
 fn main(rt: HostRuntime) -> ExitCode {
+    let mut notes = RealSink::new(rt.stderr());
     match given_words(&rt) {
         Ok(words) => {
             let mut folder = RealFolder::new(&rt);
             let mut out = RealSink::new(rt.stdout());
-            let mut notes = RealSink::new(rt.stderr());
-            program(rt.alloc(), &words, &mut folder, &mut out, &mut notes)
+            program(
+                rt.alloc(),
+                &words,
+                &mut folder,
+                &mut out,
+                &mut notes,
+                &NoPredicates,
+            )
         }
-        Err(error) => code_for(status_without_words(&error)),
+        Err(error) => {
+            let status = status_without_words(&error);
+            code_for(put_note(rt.alloc(), &[], status, &mut notes))
+        }
     }
 }

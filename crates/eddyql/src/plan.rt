@@ -1,10 +1,11 @@
 //! What a run runs.
+use catalogue::Catalogue;
 use sq_expr::Block;
-use sq_value::Tables;
+use sqlite_items::Items;
 
-/// What a run runs: a block over tables.
-#[derive(Debug, Drop)]
+/// What a run runs: the blocks of the statements, in order, over the tables of a catalogue.
+#[derive(Drop)]
 pub struct Plan {
-    pub block: Block,
-    pub tables: Tables,
+    pub blocks: Items<Block>,
+    pub catalogue: Catalogue,
 }

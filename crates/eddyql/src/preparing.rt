@@ -1,172 +1,163 @@
-//! From files to a plan: the script is parsed and read first, then the tables in order, then the
-//! columns are bound.
+//! From what the words ask for to the plan of a run: the script is parsed, the tables are read, the
+//! accesses' columns are found, and all statements are bound.
 
-ghost use Rattle.std.specs.Prelude.{◌≡◌, ◌<◌, ◌≤◌, ℕ, List, Some, None, Result, Ok, IsSome, IsOk, IfOk, IfErr, OnOk, All, map, length};
-ghost use Rattle.std.specs.String.{string_bytes};
-ghost use Rattle.sq_value.specs.Relation.{Relation};
-ghost use Rattle.outside.specs.Files.{File};
-ghost use Rattle.outside.specs.Faults.{NeverFalls, Rose};
-ghost use Rattle.eddyql.specs.Words.{table_of_word, command_of};
-ghost use Rattle.eddyql.specs.EarlyScript.{early_script};
-ghost use Rattle.eddyql.specs.EarlySeen.{join_seen};
-ghost use Rattle.eddyql.specs.ScriptText as text_spec;
-ghost use Rattle.eddyql.specs.Stage.{file_unread};
-ghost use Rattle.eddyql.specs.Outcome.{or_refuse, join_read, block_bound, plan_of, Reached};
-ghost use Rattle.eddyql.specs.Refusal.{MayRefuse, IsEarly, UnlessReadOrMemory, never};
-ghost use Rattle.eddyql.specs.EarlyLoaded.{IsIntegerTable};
-ghost use Rattle.eddyql.specs.EarlyRunnable.{IsRunnable};
-ghost use Rattle.eddyql.specs.declared.status.FileOf.{FileOf};
-ghost use Rattle.eddyql.specs.declared.status.Status.TheVariants as status;
-ghost use Rattle.sq_parse.specs.declared.parser.ParseFault.TheVariants.{Syntax};
-ghost use Rattle.sq_parse.specs.declared.parser.ParseFault.{ParseFault};
-ghost use Rattle.sq_parse.specs.declared.tree.Script.{Script};
-ghost use Rattle.sq_parse.specs.Fault.{ReadsAs};
+ghost use Rattle.std.specs.Prelude.{◌≡◌, ◌<◌, ◌≤◌, ◌+◌, Ok, Err, IfOk, IfErr, All, length};
+ghost use Rattle.command_line.specs.Within.{IsQuery};
+ghost use Rattle.sq_bind.specs.Condition.{calling};
+ghost use Rattle.sq_bind.specs.Given.{IsParsed, AreAccesses, over};
+ghost use Rattle.sq_expr.specs.Fits.{IsFit};
+ghost use Rattle.eddyql.specs.Doing.{Went, Stopped, Refuses, IsParsedScript};
+ghost use Rattle.eddyql.specs.Outcome as spec;
+ghost use Rattle.eddyql.specs.Outcome.{predicates};
+ghost use Rattle.eddyql.specs.Seen.{folder_seen};
+ghost use Rattle.eddyql.specs.declared.status.FileOf.TheVariants as file_of;
 
-use crate::binding::bind;
+use crate::accesses::read_accesses;
 use crate::loading::{load, load_tables};
 use crate::plan::Plan;
-use crate::script::{JoinQuery, MAX_BYTES, read_script};
-use crate::status::{BindFault, FileOf, ParseFault, Status};
+use crate::refusing::{bind_status, script_status};
+use crate::status::{FileOf, Status};
+use catalogue::Catalogue;
+use command_line::Query;
 use outside::Folder;
-use sq_expr::Block;
-use sq_parse::parse;
-use sq_value::Tables;
+use sq_bind::bind;
+use sq_expr::{Access, Block};
+use sq_parse::{Script, Statement, parse};
+use sq_value::Predicates;
+use sqlite_items::Items;
 use std::alloc::Global;
 
-// The refusal of a text that is too long, or of a script that isn't in the early form.
-const NO_JOIN: Status = Status::Script {
-    fault: ParseFault::Syntax { at: 0 },
-};
-
-// The refusal of a script by a fault.
-fn refusal_of(fault: ParseFault) -> Status
-    ensures status { result ≡ text_spec.refusal_of fault }
-    ensures unread { file_unread result ≡ None }
-    ensures early { IsEarly ⊥ result }
-{
-    match fault {
-        ParseFault::Memory => Status::Memory,
-        _ => Status::Script { fault },
-    }
-}
-
-// Parses a text, so that only a script is read further. Its tree is dropped.
-fn check_script(alloc: Global, text: &[u8]) -> Result<(), Status>
+// The script that a text spells.
+fn parse_script(alloc: Global, text: &[u8]) -> Result<Script, Status>
     requires { length text.now ≤ 67108864 }
-    ensures ok { IfOk result (λ done. (read : Result Script ParseFault) → ReadsAs text.now read → IsOk read) }
-    ensures refused { IfErr result (λ s. (read : Result Script ParseFault) → ReadsAs text.now read
-        → MayRefuse never (text_spec.or_fault read) s) }
-    ensures unread { IfErr result (λ s. file_unread s ≡ None) }
-    ensures early { IfErr result (IsEarly ⊥) }
+    ensures ok { IfOk result (λ script. spec.IsSpelled text.now (Ok script)) }
+    ensures parsed { IfOk result IsParsedScript }
+    ensures refused { IfErr result (λ s. Refuses (spec.IsSpelled text.now (Err s)) s) }
 {
     match parse(alloc, text) {
-        Ok(_script) => Ok(()),
-        Err(fault) => Err(refusal_of(fault)),
+        Ok(script) => Ok(script),
+        Err(fault) => Err(script_status(fault)),
     }
 }
 
-// The join that a text in the early form asks for.
-fn early_join<'s>(alloc: Global, tables: &[String], text: &'s [u8]) -> Result<JoinQuery<'s>, Status>
-    ensures ok { IfOk result (λ query. early_script (map table_of_word (map string_bytes tables.now)) text.now
-        ≡ Some (join_seen query)) }
-    ensures left { IfOk result (λ query. query.left < length tables.now) }
-    ensures right { IfOk result (λ query. query.right < length tables.now) }
-    ensures refused { IfErr result (MayRefuse never (or_refuse (status.Script (Syntax 0)) (early_script
-        (map table_of_word (map string_bytes tables.now)) text.now))) }
-    ensures unread { IfErr result (λ s. file_unread s ≡ None) }
-    ensures early { IfErr result (IsEarly ⊥) }
+// Loads and parses the script.
+fn read_script<F: Folder>(alloc: Global, folder: &mut F, name: &str) -> Result<Script, Status>
+    ensures went { IfOk result (λ script.
+        Went (folder_seen (F.holds folder.old) (F.faults folder.old))
+        (folder_seen (F.holds folder.new) (F.faults folder.new))
+        (λ files. spec.IsScript files name.now (Ok script))) }
+    ensures parsed { IfOk result IsParsedScript }
+    ensures stopped { IfErr result (λ s.
+        Stopped (folder_seen (F.holds folder.old) (F.faults folder.old))
+        (folder_seen (F.holds folder.new) (F.faults folder.new))
+        (λ files. spec.IsScript files name.now (Err s)) (λ files f. f ≡ file_of.Script) s) }
 {
-    match read_script(alloc, tables, text) {
-        Ok(Some(query)) => Ok(query),
-        Ok(None) => Err(NO_JOIN),
-        Err(_) => Err(Status::Memory),
-    }
+    let text = load(alloc, folder, name, FileOf::Script)?;
+    parse_script(alloc, text.as_slice())
 }
 
-// The join that the text of a script asks for.
-fn find_query<'s>(alloc: Global, tables: &[String], text: &'s [u8]) -> Result<JoinQuery<'s>, Status>
-    ensures ok { IfOk result (λ query. (read : Result Script ParseFault) → text_spec.TextReadsAs text.now read
-        → join_read read (map table_of_word (map string_bytes tables.now)) text.now ≡ Ok (join_seen query)) }
-    ensures left { IfOk result (λ query. query.left < length tables.now) }
-    ensures right { IfOk result (λ query. query.right < length tables.now) }
-    ensures refused { IfErr result (λ s. (read : Result Script ParseFault) → text_spec.TextReadsAs text.now read
-        → MayRefuse never (join_read read (map table_of_word (map string_bytes tables.now)) text.now) s) }
-    ensures unread { IfErr result (λ s. file_unread s ≡ None) }
-    ensures early { IfErr result (IsEarly ⊥) }
+// The block of the statement with this number, which counts from 1.
+fn bind_one<P: Predicates>(
+    alloc: Global,
+    number: u32,
+    statement: &Statement,
+    catalogue: &Catalogue,
+    accesses: &[Access],
+    functions: &P,
+) -> Result<Block, Status>
+    requires parsed { IsParsed statement.now }
+    requires reached { AreAccesses catalogue.now.tables accesses.now }
+    ensures ok { let calls = calling (P.number_of functions.now) (P.kinds_of functions.now) in
+        IfOk result (λ block. spec.IsBlock (over catalogue.now accesses.now calls) number statement.now (Ok block)) }
+    ensures fits { IfOk result (IsFit (P.kinds_of functions.now) catalogue.now.tables) }
+    ensures refused { let calls = calling (P.number_of functions.now) (P.kinds_of functions.now) in
+        IfErr result (λ s.
+        Refuses (spec.IsBlock (over catalogue.now accesses.now calls) number statement.now (Err s)) s) }
 {
-    if text.len() > MAX_BYTES {
-        return Err(NO_JOIN);
+    match bind(alloc, statement, catalogue, accesses, functions) {
+        Ok(block) => Ok(block),
+        Err(fault) => Err(bind_status(number, fault)),
     }
-    check_script(alloc, text)?;
-    early_join(alloc, tables, text)
 }
 
-// The block of a join over its tables.
-fn bind_query(alloc: Global, query: &JoinQuery<'_>, tables: &Tables) -> Result<Block, Status>
-    requires few { length tables.now ≤ 16 }
-    requires left { query.now.left < length tables.now }
-    requires right { query.now.right < length tables.now }
-    ensures ok { IfOk result (λ block. block_bound (join_seen query.now) tables.now ≡ Ok block) }
-    ensures refused { IfErr result (MayRefuse never (block_bound (join_seen query.now) tables.now)) }
-    ensures early { IfErr result (IsEarly ⊥) }
+// The blocks of a script's statements, in order.
+fn bind_all<P: Predicates>(
+    alloc: Global,
+    script: &Script,
+    catalogue: &Catalogue,
+    accesses: &[Access],
+    functions: &P,
+) -> Result<Items<Block>, Status>
+    requires parsed { IsParsedScript script.now }
+    requires reached { AreAccesses catalogue.now.tables accesses.now }
+    ensures ok { let calls = calling (P.number_of functions.now) (P.kinds_of functions.now) in
+        IfOk result (λ blocks.
+        spec.AreBlocks (over catalogue.now accesses.now calls) 1 script.now.statements (Ok blocks)) }
+    ensures fit { IfOk result (All (IsFit (P.kinds_of functions.now) catalogue.now.tables)) }
+    ensures refused { let calls = calling (P.number_of functions.now) (P.kinds_of functions.now) in
+        IfErr result (λ s.
+        Refuses (spec.AreBlocks (over catalogue.now accesses.now calls) 1 script.now.statements (Err s)) s) }
 {
-    let left = query.left as u32;
-    let right = query.right as u32;
-    match bind(
-        alloc,
-        left,
-        right,
-        query.left_column,
-        query.right_column,
-        tables,
-    ) {
-        Ok(Some(block)) => Ok(block),
-        Ok(None) => Err(Status::Bind {
-            statement: 1,
-            fault: BindFault::UnknownColumn { at: 0 },
-        }),
-        Err(_) => Err(Status::Memory),
+    let statements = script.statements.as_slice();
+    let mut blocks = Items::new(alloc);
+    for (index, statement) in statements.iter().enumerate() {
+        let number = index as u32 + 1;
+        let block = bind_one(alloc, number, statement, catalogue, accesses, functions)?;
+        let Ok(()) = blocks.push(block) else {
+            return Err(Status::Memory);
+        };
     }
+    Ok(blocks)
 }
 
-/// The plan of a script's file and table words: what a run runs.
+// The plan of a script over the tables that were read.
+fn plan_over<P: Predicates>(
+    alloc: Global,
+    query: &Query,
+    script: &Script,
+    catalogue: Catalogue,
+    functions: &P,
+) -> Result<Plan, Status>
+    requires asked { IsQuery query.now }
+    requires parsed { IsParsedScript script.now }
+    requires count { length catalogue.tables ≡ length query.now.tables }
+    ensures ok { let p = predicates (P.number_of functions.now) (P.kinds_of functions.now) P.gives in
+        IfOk result (λ plan. spec.IsBoundPlan p query.now script.now catalogue (Ok plan)) }
+    ensures fit { IfOk result (λ plan. All (IsFit (P.kinds_of functions.now) plan.catalogue.tables) plan.blocks) }
+    ensures refused { let p = predicates (P.number_of functions.now) (P.kinds_of functions.now) P.gives in
+        IfErr result (λ s. Refuses (spec.IsBoundPlan p query.now script.now catalogue (Err s)) s) }
+{
+    let accesses = read_accesses(alloc, catalogue.tables(), query.accesses.as_slice())?;
+    let blocks = bind_all(alloc, script, &catalogue, accesses.as_slice(), functions)?;
+    Ok(Plan { blocks, catalogue })
+}
+
+/// The plan of what the words ask for: what a run runs.
 ///
 /// # Errors
-/// The first refusal, in this order: the script isn't there or can't be read, is too long, isn't a
-/// script, or isn't in the early form; each table isn't there or can't be read, or isn't a table; a
-/// table lacks its column. Want of memory may come at any point.
-pub fn prepare<F: Folder>(
+/// The first refusal, in this order: the script isn't there or can't be read, is too long, or isn't a
+/// script; each table isn't there or can't be read, or isn't a table; an access's table lacks its
+/// column; a statement can't be bound. Want of memory may come at any point.
+pub fn prepare<F: Folder, P: Predicates>(
     alloc: Global,
+    query: &Query,
     folder: &mut F,
-    script: &str,
-    tables: &[String],
+    functions: &P,
 ) -> Result<Plan, Status>
-    requires { length tables.now ≤ 16 }
-    ensures keeps { F.holds folder.new ≡ F.holds folder.old }
-    ensures counts { NeverFalls (F.faults folder.old) (F.faults folder.new) }
-    ensures kept { OnOk result (F.faults folder.new ≡ F.faults folder.old) }
-    ensures refused_kept { IfErr result (λ s. UnlessReadOrMemory s (F.faults folder.new ≡ F.faults folder.old)) }
-    ensures told { IfOk result (λ plan. (files : List File) → F.holds folder.old ≡ Some files
-        → (read : Result Script ParseFault) → text_spec.ScriptReadsAs (command_of script.now
-        (map string_bytes tables.now)) files read
-        → plan_of read (command_of script.now (map string_bytes tables.now)) files ≡ Ok plan) }
-    ensures runnable { IfOk result (λ plan. IsRunnable plan.block plan.tables) }
-    ensures refused { IfErr result (λ s. (files : List File) → F.holds folder.old ≡ Some files
-        → (read : Result Script ParseFault) → text_spec.ScriptReadsAs (command_of script.now
-        (map string_bytes tables.now)) files read
-        → MayRefuse (λ f. Rose (F.faults folder.old) (F.faults folder.new)
-        × Reached read (command_of script.now (map string_bytes tables.now)) files f)
-        (plan_of read (command_of script.now (map string_bytes tables.now)) files) s) }
-    ensures read { IfErr result (λ s. (f : FileOf) → s ≡ status.Read f
-        → Rose (F.faults folder.old) (F.faults folder.new)) }
-    ensures early { IfErr result (IsEarly (IsSome (F.holds folder.old))) }
+    requires { IsQuery query.now }
+    ensures went { let p = predicates (P.number_of functions.now) (P.kinds_of functions.now) P.gives in
+        IfOk result (λ plan.
+        Went (folder_seen (F.holds folder.old) (F.faults folder.old))
+        (folder_seen (F.holds folder.new) (F.faults folder.new))
+        (λ files. spec.IsPlan p query.now files (Ok plan))) }
+    ensures fit { IfOk result (λ plan. All (IsFit (P.kinds_of functions.now) plan.catalogue.tables) plan.blocks) }
+    ensures stopped { let p = predicates (P.number_of functions.now) (P.kinds_of functions.now) P.gives in
+        IfErr result (λ s.
+        Stopped (folder_seen (F.holds folder.old) (F.faults folder.old))
+        (folder_seen (F.holds folder.new) (F.faults folder.new))
+        (λ files. spec.IsPlan p query.now files (Err s)) (spec.Reached query.now) s) }
 {
-    let text = load(alloc, folder, script, FileOf::Script)?;
-    let query = find_query(alloc, tables, text.as_slice())?;
-    let relations = load_tables(alloc, folder, tables)?;
-    let block = bind_query(alloc, &query, &relations)?;
-    Ok(Plan {
-        block,
-        tables: relations,
-    })
+    let script = read_script(alloc, folder, query.script.as_str())?;
+    let catalogue = load_tables(alloc, folder, query.tables.as_slice())?;
+    plan_over(alloc, query, &script, catalogue, functions)
 }

@@ -1,21 +1,23 @@
 //! The program over any folder and outputs: from the words that it was started with to the code
 //! that it ends with.
 
-ghost use Rattle.std.specs.Prelude.{◌≡◌, ◌⊎◌, ◌++◌, ℕ, List, Some, None, Result, IsOkAnd, IfOk, map, drop};
+ghost use Rattle.std.specs.Prelude.{◌≡◌, ◌⊎◌, ◌++◌, ℕ, List, Some, None, Result, Ok, IfOk, map, drop};
 ghost use Rattle.std.specs.Process.{exit_status};
 ghost use Rattle.std.specs.String.{string_bytes};
 ghost use Rattle.std.specs.Vec.Iter.{into_iter_items};
 ghost use Rattle.outside.specs.Files.{File};
-ghost use Rattle.outside.specs.Faults.{Rose};
+ghost use Rattle.outside.specs.Faults.{RoseOrFull};
 ghost use Rattle.outside.specs.Told.{Adds};
-ghost use Rattle.eddyql.specs.Words.{command};
-ghost use Rattle.eddyql.specs.Outcome.{IsOutcome};
+ghost use Rattle.eddyql.specs.Asked.{asked};
+ghost use Rattle.eddyql.specs.Outcome.{IsOutcome, predicates};
 ghost use Rattle.eddyql.specs.Run.{status_of};
 ghost use Rattle.eddyql.specs.Stage.{stage_of, code_of};
+ghost use Rattle.eddyql.specs.declared.status.Status.{Status as Ending};
 
 use crate::run::run;
 use crate::status::Status;
 use outside::{Folder, Sink};
+use sq_value::Predicates;
 use std::alloc::{AllocError, Global};
 use std::env::Args;
 use std::process::ExitCode;
@@ -55,23 +57,28 @@ fn behind_name(words: &[String]) -> &[String]
 /// answers the code that it ends with.
 ///
 /// Every word behind the name is handed to [`run`], and the code is that of the run's status.
-pub fn program<F: Folder, O: Sink, N: Sink>(
+pub fn program<F: Folder, O: Sink, N: Sink, P: Predicates>(
     alloc: Global,
     words: &[String],
     folder: &mut F,
     out: &mut O,
     notes: &mut N,
+    functions: &P,
 ) -> ExitCode
-    ensures usage { command (drop 1 (map string_bytes words.now)) ≡ None → exit_status result ≡ 2 }
-    ensures done { exit_status result ≡ 0 → (files : List File) → F.holds folder.old ≡ Some files
-        → (due : Result (List ℕ) Status) → IsOutcome (drop 1 (map string_bytes words.now)) files due
-        → IsOkAnd due (λ text. Adds (O.written out.old) (O.written out.new) text) }
-    ensures complete { (files : List File) → F.holds folder.old ≡ Some files
-        → ¬ (Rose (F.faults folder.old) (F.faults folder.new)) → ¬ (Rose (O.faults out.old) (O.faults out.new))
-        → (due : Result (List ℕ) Status) → IsOutcome (drop 1 (map string_bytes words.now)) files due
+    ensures usage { asked (drop 1 (map string_bytes words.now)) ≡ None
+        → (exit_status result ≡ 2) ⊎ (exit_status result ≡ 9) }
+    ensures done { let p = predicates (P.number_of functions.now) (P.kinds_of functions.now) P.gives in
+        exit_status result ≡ 0 → (files : List File) → F.holds folder.old ≡ Some files
+        → (text : List ℕ) × IsOutcome p (drop 1 (map string_bytes words.now)) files (Ok text)
+        × Adds (O.written out.old) (O.written out.new) text }
+    ensures complete { let p = predicates (P.number_of functions.now) (P.kinds_of functions.now) P.gives in
+        (files : List File) → F.holds folder.old ≡ Some files
+        → ¬ (RoseOrFull (F.faults folder.old) (F.faults folder.new))
+        → ¬ (RoseOrFull (O.faults out.old) (O.faults out.new))
+        → (due : Result (List ℕ) Ending) → IsOutcome p (drop 1 (map string_bytes words.now)) files due
         → (exit_status result ≡ code_of (stage_of (status_of due))) ⊎ (exit_status result ≡ 9) }
 {
-    code_for(run(alloc, behind_name(words), folder, out, notes))
+    code_for(run(alloc, behind_name(words), folder, out, notes, functions))
 }
 
 #[cfg(test)]

@@ -1,143 +1,191 @@
 //! The top call: from words, files and an output to a status.
 
-ghost use Rattle.std.specs.Prelude.{◌≡◌, ◌⊎◌, ℕ, List, Some, None, Result, Ok, Err, IsSome, IsOkAnd, map, take};
+ghost use Rattle.std.specs.Prelude.{◌≡◌, ◌≢◌, ◌⊎◌, ℕ, List, Some, None, Result, Ok, IsSome, All, map};
 ghost use Rattle.std.specs.String.{string_bytes};
 ghost use Rattle.outside.specs.Files.{File};
-ghost use Rattle.outside.specs.Faults.{NeverFalls, Rose};
+ghost use Rattle.outside.specs.Faults.{NeverFalls, RoseOrFull};
 ghost use Rattle.outside.specs.Told.{Adds, AddsFront};
-ghost use Rattle.sq_parse.specs.declared.parser.ParseFault.{ParseFault};
-ghost use Rattle.sq_parse.specs.declared.parser.ParseFault.TheVariants as parser;
-ghost use Rattle.bag_meaning.specs.Answer.{answer};
-ghost use Rattle.eddyql.specs.Words.{command};
-ghost use Rattle.sq_parse.specs.Fault.{IsFault};
-ghost use Rattle.eddyql.specs.ScriptText.{HasScript, RefusesScript};
-ghost use Rattle.eddyql.specs.EarlyJoin.{no_meaning};
-ghost use Rattle.eddyql.specs.Writing.{HasRows, rows_of_combo};
-ghost use Rattle.eddyql.specs.Outcome.{IsOutcome, OneOutcome, text_of, ReachedBy};
-ghost use Rattle.eddyql.specs.Run.{MayEnd, status_of, text_due, IsLate, IsBeforeOutput};
+ghost use Rattle.sq_expr.specs.Fits.{IsFit};
+ghost use Rattle.command_line.specs.Within.{IsQuery};
+ghost use Rattle.eddyql.specs.Asked.{names_asked, names_of};
+ghost use Rattle.eddyql.specs.Asked as asking;
+ghost use Rattle.eddyql.specs.Doing.{Wrote, Answered, Ended, Finished};
+ghost use Rattle.eddyql.specs.Faults.{IsPlaced};
+ghost use Rattle.eddyql.specs.Note.{IsNoted, line_of};
+ghost use Rattle.eddyql.specs.Outcome.{IsOutcome, OneOutcome, ReachedBy, predicates, text_of};
 ghost use Rattle.eddyql.specs.Refusal.{UnlessReadOrMemory};
-ghost use Rattle.eddyql.specs.EarlyRunnable.{IsRunnable};
+ghost use Rattle.eddyql.specs.Run.{MayEnd, status_of, text_due, IsBeforeOutput};
+ghost use Rattle.eddyql.specs.Seen.{folder_seen, sink_seen};
 ghost use Rattle.eddyql.specs.declared.status.FileOf.{FileOf};
+ghost use Rattle.eddyql.specs.declared.status.Status.{Status as Ending};
 
-use crate::join::join;
+use crate::answering::put_answers;
+use crate::asking::asked;
+use crate::noting::put_note;
 use crate::plan::Plan;
 use crate::preparing::prepare;
 use crate::status::Status;
-use crate::words::is_command;
-use crate::writing::{WriteFault, write_answer};
-use bag_meaning::Combo;
+use command_line::Query;
 use outside::{Folder, Sink};
+use result_sink::WriteFault;
+use sq_value::Predicates;
 use std::alloc::Global;
 
-// Writes the answer of a plan, whose combinations were found.
-fn put_answer<O: Sink>(alloc: Global, plan: &Plan, combos: &[Combo], out: &mut O) -> Status
-    requires runnable { IsRunnable plan.now.block plan.now.tables }
-    requires found { map (λ (c : Combo). take 2 c.rows) combos.now ≡ answer no_meaning plan.now.block plan.now.tables }
-    ensures counts { NeverFalls (O.faults out.old) (O.faults out.new) }
-    ensures done { result ≡ Status.Done → Adds (O.written out.old) (O.written out.new) (text_of plan.now) }
-    ensures front { AddsFront (O.written out.old) (O.written out.new) (text_of plan.now) }
-    ensures write { result ≡ Status.Write → Rose (O.faults out.old) (O.faults out.new) }
-    ensures late { IsLate result }
+// Runs a plan and writes its answers.
+fn run_plan<O: Sink, P: Predicates>(
+    alloc: Global,
+    plan: &Plan,
+    functions: &P,
+    out: &mut O,
+) -> Status
+    requires { All (IsFit (P.kinds_of functions.now) plan.now.catalogue.tables) plan.now.blocks }
+    ensures { Answered (sink_seen (O.written out.old) (O.faults out.old))
+        (sink_seen (O.written out.new) (O.faults out.new))
+        (text_of P.gives plan.now.catalogue.tables plan.now.blocks) result }
 {
-    match write_answer(alloc, &plan.block, &plan.tables, combos, out) {
+    let blocks = plan.blocks.as_slice();
+    match put_answers(alloc, blocks, plan.catalogue.tables(), functions, out) {
         Ok(()) => Status::Done,
         Err(WriteFault::Failed) => Status::Write,
         Err(WriteFault::Memory) => Status::Memory,
     }
 }
 
-// Runs a plan and writes its answer.
-fn run_plan<O: Sink>(alloc: Global, plan: &Plan, out: &mut O) -> Status
-    requires { IsRunnable plan.now.block plan.now.tables }
-    ensures counts { NeverFalls (O.faults out.old) (O.faults out.new) }
-    ensures done { result ≡ Status.Done → Adds (O.written out.old) (O.written out.new) (text_of plan.now) }
-    ensures front { AddsFront (O.written out.old) (O.written out.new) (text_of plan.now) }
-    ensures write { result ≡ Status.Write → Rose (O.faults out.old) (O.faults out.new) }
-    ensures late { IsLate result }
+// Runs what the words ask for.
+fn run_query<F: Folder, O: Sink, P: Predicates>(
+    alloc: Global,
+    query: &Query,
+    folder: &mut F,
+    out: &mut O,
+    functions: &P,
+) -> Status
+    requires { IsQuery query.now }
+    ensures { let p = predicates (P.number_of functions.now) (P.kinds_of functions.now) P.gives in
+        (words : List (List ℕ)) → asking.asked words ≡ Some query.now
+        → Ended p words (folder_seen (F.holds folder.old) (F.faults folder.old))
+        (folder_seen (F.holds folder.new) (F.faults folder.new)) (sink_seen (O.written out.old) (O.faults out.old))
+        (sink_seen (O.written out.new) (O.faults out.new)) result }
 {
-    match join(alloc, &plan.block, &plan.tables) {
-        Ok(combos) => put_answer(alloc, plan, &combos, out),
-        Err(_) => Status::Memory,
+    match prepare(alloc, query, folder, functions) {
+        Ok(plan) => run_plan(alloc, &plan, functions, out),
+        Err(refusal) => refusal,
     }
 }
 
-/// Runs a script: the top call, which does all that the program does.
-///
-/// The words are the script's file and 1 to 16 tables, each `NAME=FILE`; they don't hold the
-/// program's own name. In this order the words are tested, the script is loaded, parsed and read,
-/// each table is loaded and read, the columns are bound, the query is run, and its answer is written
-/// to `out`: nothing is written before. The first refusal ends the run. Nothing is put to `notes`
-/// yet.
-///
-/// Where the folder tells what it holds, `Done` has written exactly the text of the outcome of these
-/// words and files, and any refusal but a fault of the folder or the output, or want of memory, is
-/// that outcome's. Want of memory may come at any point, and leaves a front of the text.
-pub fn run<F: Folder, O: Sink, N: Sink>(
+// Runs what the words ask for, and says on the notes why it was refused.
+fn run_noted<F: Folder, O: Sink, N: Sink, P: Predicates>(
+    alloc: Global,
+    query: &Query,
+    folder: &mut F,
+    out: &mut O,
+    notes: &mut N,
+    functions: &P,
+) -> Status
+    requires { IsQuery query.now }
+    ensures { let p = predicates (P.number_of functions.now) (P.kinds_of functions.now) P.gives in
+        (words : List (List ℕ)) → asking.asked words ≡ Some query.now
+        → Finished p words (folder_seen (F.holds folder.old) (F.faults folder.old))
+        (folder_seen (F.holds folder.new) (F.faults folder.new)) (sink_seen (O.written out.old) (O.faults out.old))
+        (sink_seen (O.written out.new) (O.faults out.new)) (sink_seen (N.written notes.old) (N.faults notes.old))
+        (sink_seen (N.written notes.new) (N.faults notes.new)) result }
+{
+    let status = run_query(alloc, query, folder, out, functions);
+    put_note(alloc, query.tables.as_slice(), status, notes)
+}
+
+// Runs the words.
+fn run_words<F: Folder, O: Sink, N: Sink, P: Predicates>(
     alloc: Global,
     words: &[String],
     folder: &mut F,
     out: &mut O,
     notes: &mut N,
+    functions: &P,
+) -> Status
+    ensures finished { let p = predicates (P.number_of functions.now) (P.kinds_of functions.now) P.gives in
+        Finished p (map string_bytes words.now) (folder_seen (F.holds folder.old) (F.faults folder.old))
+        (folder_seen (F.holds folder.new) (F.faults folder.new)) (sink_seen (O.written out.old) (O.faults out.old))
+        (sink_seen (O.written out.new) (O.faults out.new)) (sink_seen (N.written notes.old) (N.faults notes.old))
+        (sink_seen (N.written notes.new) (N.faults notes.new)) result }
+    ensures untouched { asking.asked (map string_bytes words.now) ≡ None → folder.new ≡ folder.old }
+{
+    match asked(alloc, words) {
+        Ok(query) => run_noted(alloc, &query, folder, out, notes, functions),
+        Err(refusal) => put_note(alloc, &[], refusal, notes),
+    }
+}
+
+/// Runs a script: the top call, which does all that the program does.
+///
+/// The words don't hold the program's own name. In this order they are read, the script is loaded and
+/// parsed, each table is loaded and read, the columns of the accesses are found, and all statements
+/// are bound; then each statement is run, and its answer is put in order and written to `out`.
+/// Nothing is written before. The first refusal ends the run, and one line on `notes` says why.
+///
+/// Where the folder tells what it holds, `Done` has written exactly the text of the outcome of these
+/// words, files and predicates, and any refusal but a fault of the folder or the output, or want of
+/// memory, is that outcome's. Want of memory may come at any point, and leaves a front of the text.
+pub fn run<F: Folder, O: Sink, N: Sink, P: Predicates>(
+    alloc: Global,
+    words: &[String],
+    folder: &mut F,
+    out: &mut O,
+    notes: &mut N,
+    functions: &P,
 ) -> Status
     ensures keeps { F.holds folder.new ≡ F.holds folder.old }
     ensures folder_counts { NeverFalls (F.faults folder.old) (F.faults folder.new) }
     ensures out_counts { NeverFalls (O.faults out.old) (O.faults out.new) }
-    ensures notes { N.written notes.new ≡ N.written notes.old }
-    ensures notes_count { N.faults notes.new ≡ N.faults notes.old }
 
     // The headline: what is written where the run is done.
-    ensures done { result ≡ Status.Done → (files : List File) → F.holds folder.old ≡ Some files
-        → (due : Result (List ℕ) Status) → IsOutcome (map string_bytes words.now) files due
-        → IsOkAnd due (λ text. Adds (O.written out.old) (O.written out.new) text) }
+    ensures done { let p = predicates (P.number_of functions.now) (P.kinds_of functions.now) P.gives in
+        result ≡ Status.Done → (files : List File) → F.holds folder.old ≡ Some files
+        → (text : List ℕ) × IsOutcome p (map string_bytes words.now) files (Ok text)
+        × Adds (O.written out.old) (O.written out.new) text }
 
     // Each status has its cause.
-    ensures causes { (files : List File) → F.holds folder.old ≡ Some files
-        → (due : Result (List ℕ) Status) → IsOutcome (map string_bytes words.now) files due
-        → MayEnd (λ file. Rose (F.faults folder.old) (F.faults folder.new)
+    ensures causes { let p = predicates (P.number_of functions.now) (P.kinds_of functions.now) P.gives in
+        (files : List File) → F.holds folder.old ≡ Some files
+        → MayEnd (λ file. RoseOrFull (F.faults folder.old) (F.faults folder.new)
         × ReachedBy (map string_bytes words.now) files file)
-        (Rose (O.faults out.old) (O.faults out.new)) due result }
-    ensures usage_only { result ≡ Status.Usage → command (map string_bytes words.now) ≡ None }
-    ensures usage { command (map string_bytes words.now) ≡ None → result ≡ Status.Usage }
+        (RoseOrFull (O.faults out.old) (O.faults out.new)) (IsOutcome p (map string_bytes words.now) files) result }
+    ensures usage_only { result ≡ Status.Usage → asking.asked (map string_bytes words.now) ≡ None }
+    ensures usage { asking.asked (map string_bytes words.now) ≡ None
+        → (result ≡ Status.Usage) ⊎ (result ≡ Status.Memory) }
+    ensures untouched { asking.asked (map string_bytes words.now) ≡ None → folder.new ≡ folder.old }
     ensures kept { UnlessReadOrMemory result (F.faults folder.new ≡ F.faults folder.old) }
-    ensures untouched { command (map string_bytes words.now) ≡ None → folder.new ≡ folder.old }
-    ensures syntax { (files : List File) → F.holds folder.old ≡ Some files → (text : List ℕ) (fault : ParseFault)
-        → HasScript (map string_bytes words.now) files text → IsFault text fault
-        → ¬ (Rose (F.faults folder.old) (F.faults folder.new))
-        → (result ≡ Status.Script fault) ⊎ (result ≡ Status.Memory) }
-    ensures syntax_only { (files : List File) → F.holds folder.old ≡ Some files → (text : List ℕ) (fault : ParseFault)
-        → (script : HasScript (map string_bytes words.now) files text) → result ≡ Status.Script fault
-        → RefusesScript script.asked.tables text fault }
-    ensures no_memory { result ≡ Status.Script parser.Memory → ⊥ }
-    ensures read { (file : FileOf) → result ≡ Status.Read file → Rose (F.faults folder.old) (F.faults folder.new) }
-    ensures write { result ≡ Status.Write → Rose (O.faults out.old) (O.faults out.new) }
+    ensures placed { IsPlaced result }
+    ensures read { (file : FileOf) → result ≡ Status.Read file
+        → RoseOrFull (F.faults folder.old) (F.faults folder.new) }
+    ensures write { result ≡ Status.Write → RoseOrFull (O.faults out.old) (O.faults out.new) }
     ensures not_found { (file : FileOf) → result ≡ Status.NotFound file → IsSome (F.holds folder.old) }
 
     // Without a fault the status is the outcome's, or want of memory.
-    ensures complete { (files : List File) → F.holds folder.old ≡ Some files
-        → ¬ (Rose (F.faults folder.old) (F.faults folder.new)) → ¬ (Rose (O.faults out.old) (O.faults out.new))
-        → (due : Result (List ℕ) Status) → IsOutcome (map string_bytes words.now) files due
+    ensures complete { let p = predicates (P.number_of functions.now) (P.kinds_of functions.now) P.gives in
+        (files : List File) → F.holds folder.old ≡ Some files
+        → ¬ (RoseOrFull (F.faults folder.old) (F.faults folder.new))
+        → ¬ (RoseOrFull (O.faults out.old) (O.faults out.new))
+        → (due : Result (List ℕ) Ending) → IsOutcome p (map string_bytes words.now) files due
         → (result ≡ status_of due) ⊎ (result ≡ Status.Memory) }
 
     // Nothing but a front of the text that is due is written, and nothing at all by a refusal before the output.
     ensures nothing { IsBeforeOutput result → O.written out.new ≡ O.written out.old }
-    ensures front { (files : List File) → F.holds folder.old ≡ Some files
-        → (due : Result (List ℕ) Status) → IsOutcome (map string_bytes words.now) files due
+    ensures front { let p = predicates (P.number_of functions.now) (P.kinds_of functions.now) P.gives in
+        (files : List File) → F.holds folder.old ≡ Some files
+        → (due : Result (List ℕ) Ending) → IsOutcome p (map string_bytes words.now) files due
         → AddsFront (O.written out.old) (O.written out.new) (text_due due) }
+
+    // One line says why a run was refused, and nothing is said of one that is done.
+    ensures noted { result ≢ Status.Done → IsNoted (sink_seen (N.written notes.old) (N.faults notes.old))
+        (sink_seen (N.written notes.new) (N.faults notes.new))
+        (line_of (names_asked (map string_bytes words.now)) result) }
+    ensures silent { result ≡ Status.Done → N.written notes.new ≡ N.written notes.old }
+    ensures silent_count { result ≡ Status.Done → N.faults notes.new ≡ N.faults notes.old }
 {
-    let _ = notes;
-    if !is_command(words) {
-        return Status::Usage;
-    }
-    let Some((script, tables)) = words.split_first() else {
-        return Status::Usage;
-    };
-    match prepare(alloc, folder, script.as_str(), tables) {
-        Ok(plan) => run_plan(alloc, &plan, out),
-        Err(refusal) => refusal,
-    }
+    run_words(alloc, words, folder, out, notes, functions)
 }
 
-/// The law that words over files have one outcome. It does nothing.
+/// The law that words over files have one outcome, whatever the predicates. It does nothing.
 pub fn one_outcome()
     ensures { OneOutcome }
 {}

@@ -4,16 +4,16 @@ use Rattle.std.specs.Prelude.{OnErr, option_map}
 use Rattle.std.proofs.lemmas.List.{append-nil, length-take, take_all, take_more, take-append-drop}
 use Rattle.std.proofs.lemmas.Grind.{flat_map-append}
 use Rattle.std.specs.List.{flat_map}
-use Rattle.outside.specs.Faults.{Rose, NeverFalls}
+use Rattle.outside.specs.Faults.{RoseOrFull, NeverFalls}
 use Rattle.outside.specs.Told.{Adds, AddsFront}
 
 -- a count that rose has risen at any later time
-pub Rose-later : (before now later : ℕ) → Rose before now → NeverFalls now later → Rose before later
-Rose-later before now later rose stays = omega arith
+pub RoseOrFull-later : (before now later : ℕ) → RoseOrFull before now → NeverFalls now later → RoseOrFull before later
+RoseOrFull-later before now later rose stays = omega arith
 
 -- and seen from any earlier time
-pub Rose-earlier : (earlier before now : ℕ) → NeverFalls earlier before → Rose before now → Rose earlier now
-Rose-earlier earlier before now stays rose = omega arith
+pub RoseOrFull-earlier : (earlier before now : ℕ) → NeverFalls earlier before → RoseOrFull before now → RoseOrFull earlier now
+RoseOrFull-earlier earlier before now stays rose = omega arith
 
 -- nothing was put
 pub Adds-nothing : (told : Option (List ℕ)) → Adds told told []

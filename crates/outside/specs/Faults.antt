@@ -16,8 +16,8 @@ abbrev pub raised : ℕ → ℕ
 raised count = min (count + 1) (2 ^ 64 - 1)
 
 -- a count rose in a call, or stands at the end of its type
-abbrev pub Rose : ℕ → ℕ → Type 0
-Rose before now = raised before ≤ now
+abbrev pub RoseOrFull : ℕ → ℕ → Type 0
+RoseOrFull before now = raised before ≤ now
 
 -- a count stayed or rose
 abbrev pub NeverFalls : ℕ → ℕ → Type 0

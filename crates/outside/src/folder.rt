@@ -1,7 +1,7 @@
 //! Where files are loaded from: the trait of folders.
 ghost use Rattle.std.specs.Prelude.{◌≡◌, ℕ, List, Option, ◌<◌, ◌≤◌, ◌^◌, vec_len, IfOk, OnOk};
 ghost use Rattle.outside.specs.Files.{File, Gives, Lacks};
-ghost use Rattle.outside.specs.Faults.{NeverFalls, Rose};
+ghost use Rattle.outside.specs.Faults.{NeverFalls, RoseOrFull};
 
 use crate::fault::LoadFault;
 use std::alloc::Global;
@@ -28,7 +28,7 @@ pub trait Folder {
         ensures within { IfOk result (λ bytes. vec_len bytes ≤ limit) }
         ensures gives { IfOk result (λ bytes. Gives (holds self.old) name.now limit bytes.items) }
         ensures absent { result ≡ Err LoadFault.Absent → Lacks (holds self.old) name.now }
-        ensures failed { result ≡ Err LoadFault.Failed → Rose (faults self.old) (faults self.new) }
+        ensures failed { result ≡ Err LoadFault.Failed → RoseOrFull (faults self.old) (faults self.new) }
         ensures kept { OnOk result (faults self.new ≡ faults self.old) }
         ensures absent_kept { result ≡ Err LoadFault.Absent → faults self.new ≡ faults self.old };
 

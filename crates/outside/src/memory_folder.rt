@@ -2,7 +2,7 @@
 ghost use Rattle.std.specs.Prelude.{◌≡◌, ◌∷◌, ◌≢◌, ◌≤◌, ◌+◌, ◌==◌, ◌↔◌, Some, true, vec_len, IfOk, OnOk, OnErr};
 ghost use Rattle.std.specs.List.{list_any};
 ghost use Rattle.outside.specs.Chosen.{no_files, load_fails, after_load};
-ghost use Rattle.outside.specs.Faults.{NeverFalls, Rose, shown, shown-bounded};
+ghost use Rattle.outside.specs.Faults.{NeverFalls, RoseOrFull, shown, shown-bounded};
 ghost use Rattle.outside.specs.Files.{Gives, Lacks, file_of};
 
 use crate::fault::LoadFault;
@@ -112,7 +112,7 @@ impl Folder for MemoryFolder {
         ensures within { IfOk result (λ bytes. vec_len bytes ≤ limit) }
         ensures gives { IfOk result (λ bytes. Gives (Some self.old.files) name.now limit bytes.items) }
         ensures absent { result ≡ Err LoadFault.Absent → Lacks (Some self.old.files) name.now }
-        ensures failed { result ≡ Err LoadFault.Failed → Rose self.old.faults self.new.faults }
+        ensures failed { result ≡ Err LoadFault.Failed → RoseOrFull self.old.faults self.new.faults }
         ensures kept { OnOk result (self.new.faults ≡ self.old.faults) }
         ensures absent_kept { result ≡ Err LoadFault.Absent → self.new.faults ≡ self.old.faults }
         ensures after { self.new ≡ after_load self.old }

@@ -1,7 +1,7 @@
 //! A sink in memory of a fixed room, with faults where they are chosen.
 ghost use Rattle.std.specs.Prelude.{◌≡◌, ◌∷◌, ◌+◌, ◌==◌, Some, not, is_ok, find, option_map, IfOk, OnOk, OnErr};
 ghost use Rattle.outside.specs.Chosen.{failing_put, empty_sink, put_fails, after_put};
-ghost use Rattle.outside.specs.Faults.{NeverFalls, Rose, shown, shown-bounded};
+ghost use Rattle.outside.specs.Faults.{NeverFalls, RoseOrFull, shown, shown-bounded};
 ghost use Rattle.outside.specs.Told.{Adds, AddsFront};
 
 use crate::fault::PutFault;
@@ -145,7 +145,7 @@ impl Sink for MemorySink {
     fn put(&mut self, piece: &[u8]) -> Result<(), PutFault>
         ensures counts { NeverFalls self.old.faults self.new.faults }
         ensures ok { OnOk result (Adds (Some self.old.written) (Some self.new.written) piece.now) }
-        ensures failed { OnErr result (Rose self.old.faults self.new.faults) }
+        ensures failed { OnErr result (RoseOrFull self.old.faults self.new.faults) }
         ensures front { OnErr result (AddsFront (Some self.old.written) (Some self.new.written) piece.now) }
         ensures kept { OnOk result (self.new.faults ≡ self.old.faults) }
         ensures after { self.new ≡ after_put self.old piece.now }

@@ -2,7 +2,7 @@
 //! none is made again.
 ghost use Rattle.std.specs.Prelude.{◌≡◌, ◌<◌, ◌≤◌, length, take, IfOk, OnErr, OnOk};
 ghost use Rattle.std.specs.Io.KnownBytes.{Appends, Keeps};
-ghost use Rattle.outside.specs.Faults.{raised, Rose};
+ghost use Rattle.outside.specs.Faults.{raised, RoseOrFull};
 ghost use Rattle.outside.specs.Streams.{TakesPrefix};
 
 use crate::counted::counted;
@@ -61,7 +61,7 @@ pub(crate) fn put_whole<W: Write>(
 ) -> Result<(), PutFault>
     ensures whole { OnOk result (Appends (W.contents stream.old) (W.contents stream.new) piece.now) }
     ensures prefix { OnErr result (TakesPrefix piece.now (W.contents stream.old) (W.contents stream.new)) }
-    ensures failed { OnErr result (Rose faults.old faults.new) }
+    ensures failed { OnErr result (RoseOrFull faults.old faults.new) }
     ensures kept { OnOk result (faults.new ≡ faults.old) }
 {
     let written = write_whole(stream, piece, faults);

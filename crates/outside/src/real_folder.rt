@@ -1,6 +1,6 @@
 //! The file system as a folder.
 ghost use Rattle.std.specs.Prelude.{◌≡◌, ◌≢◌, ◌≤◌, vec_len, IfOk, OnOk, is_err, None, if◌then◌else◌};
-ghost use Rattle.outside.specs.Faults.{NeverFalls, Rose, raised, shown, shown-bounded};
+ghost use Rattle.outside.specs.Faults.{NeverFalls, RoseOrFull, raised, shown, shown-bounded};
 ghost use Rattle.outside.specs.Files.{Gives};
 
 use crate::fault::LoadFault;
@@ -55,7 +55,7 @@ impl<'r, R: Files> Folder for RealFolder<'r, R> {
         ensures counts { NeverFalls (shown self.old) (shown self.new) }
         ensures within { IfOk result (λ bytes. vec_len bytes ≤ limit) }
         ensures gives { IfOk result (λ bytes. Gives None name.now limit bytes.items) }
-        ensures failed { result ≡ Err LoadFault.Failed → Rose (shown self.old) (shown self.new) }
+        ensures failed { result ≡ Err LoadFault.Failed → RoseOrFull (shown self.old) (shown self.new) }
         ensures never_absent { result ≢ Err LoadFault.Absent }
         ensures exact { self.new ≡ (if is_err result then raised self.old else self.old) }
         ensures kept { OnOk result (shown self.new ≡ shown self.old) }

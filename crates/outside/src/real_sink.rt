@@ -1,7 +1,7 @@
 //! A stream of the system as a sink.
 ghost use Rattle.std.specs.Prelude.{◌≡◌, None, OnOk, OnErr};
 ghost use Rattle.std.specs.Io.KnownBytes.{Appends};
-ghost use Rattle.outside.specs.Faults.{NeverFalls, Rose, shown, shown-bounded};
+ghost use Rattle.outside.specs.Faults.{NeverFalls, RoseOrFull, shown, shown-bounded};
 ghost use Rattle.outside.specs.Real.{over_stream};
 ghost use Rattle.outside.specs.Streams.{TakesPrefix};
 ghost use Rattle.outside.specs.Told.{Adds, AddsFront};
@@ -55,7 +55,7 @@ impl<W: Write> Sink for RealSink<W> {
     fn put(&mut self, piece: &[u8]) -> Result<(), PutFault>
         ensures counts { NeverFalls (shown self.old.faults) (shown self.new.faults) }
         ensures ok { OnOk result (Adds None None piece.now) }
-        ensures failed { OnErr result (Rose (shown self.old.faults) (shown self.new.faults)) }
+        ensures failed { OnErr result (RoseOrFull (shown self.old.faults) (shown self.new.faults)) }
         ensures front { OnErr result (AddsFront None None piece.now) }
         ensures kept { OnOk result (self.new.faults ≡ self.old.faults) }
         ensures whole { OnOk result (Appends self.old.contents self.new.contents piece.now) }

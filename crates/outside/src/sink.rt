@@ -1,6 +1,6 @@
 //! What text is put into: the trait of sinks.
 ghost use Rattle.std.specs.Prelude.{◌≡◌, ℕ, ◌<◌, ◌^◌, List, Option, OnOk, OnErr};
-ghost use Rattle.outside.specs.Faults.{NeverFalls, Rose};
+ghost use Rattle.outside.specs.Faults.{NeverFalls, RoseOrFull};
 ghost use Rattle.outside.specs.Told.{Adds, AddsFront};
 
 use crate::fault::PutFault;
@@ -22,7 +22,7 @@ pub trait Sink {
     fn put(&mut self, piece: &[u8]) -> Result<(), PutFault>
         ensures counts { NeverFalls (faults self.old) (faults self.new) }
         ensures ok { OnOk result (Adds (written self.old) (written self.new) piece.now) }
-        ensures failed { OnErr result (Rose (faults self.old) (faults self.new)) }
+        ensures failed { OnErr result (RoseOrFull (faults self.old) (faults self.new)) }
         ensures front { OnErr result (AddsFront (written self.old) (written self.new) piece.now) }
         ensures kept { OnOk result (faults self.new ≡ faults self.old) };
 

@@ -1,7 +1,7 @@
--- The text of a decimal number needs no quotes.
-use Rattle.std.proofs.Common.{◌≡◌, ℕ, zero, suc, ◌+◌, ◌/◌, ◌%◌, ◌^◌, ◌<◌, Bool, true, false, List, [], ◌∷◌, ◌++◌, arith, ◌∙◌, refl}
-use Rattle.std.specs.Prelude.{unsigned_abs}
-use Rattle.std.specs.Fmt.{decimal, sign_text}
+-- The texts of integers and of decimal numbers need no quotes.
+use Rattle.std.proofs.Common.{◌≡◌, ℕ, ℤ, zero, suc, ◌+◌, ◌/◌, ◌%◌, ◌^◌, ◌<◌, Bool, true, false, List, [], ◌∷◌, ◌++◌, arith, ◌∙◌, refl}
+use Rattle.std.specs.Prelude.{pos, negsuc, unsigned_abs}
+use Rattle.std.specs.Fmt.{decimal, sign_text, signed_decimal}
 use Rattle.std.specs.Int.{is_negative}
 use Rattle.std.proofs.lemmas.Bool.{ne_eqb, or_from, cond-false}
 use Rattle.std.proofs.lemmas.List.Folds.{list_any-append}
@@ -57,3 +57,11 @@ field_text-decimal d small =
     (needs_quotes-append (sign_text (is_negative d.units)) (decimal (unsigned_abs d.units / 10 ^ d.scale))
     (needs_quotes-sign (is_negative d.units)) (needs_quotes-decimal (unsigned_abs d.units / 10 ^ d.scale) small))
     (needs_quotes-fraction d.scale (unsigned_abs d.units)))
+
+pub needs_quotes-signed : (n : ℤ) → unsigned_abs n < 2 ^ 64 → needs_quotes default_writer (signed_decimal n) ≡ false
+needs_quotes-signed (pos n) small = needs_quotes-decimal n small
+needs_quotes-signed (negsuc n) small = needs_quotes-cons 45 (decimal (suc n)) (omega arith) (needs_quotes-decimal (suc n) small)
+
+-- the field of an integer is its text
+pub field_text-integer : (n : ℤ) → unsigned_abs n < 2 ^ 64 → field_text default_writer (signed_decimal n) ≡ signed_decimal n
+field_text-integer n small = cond-false (needs_quotes default_writer (signed_decimal n)) _ _ (needs_quotes-signed n small)

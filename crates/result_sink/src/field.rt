@@ -1,6 +1,7 @@
 //! Fields of a record, as CSV writes them.
 
 ghost use Rattle.std.specs.Prelude.{◌≡◌, ◌≤◌, ◌++◌, ◌∷◌, [], unwrap_or, OnOk};
+ghost use Rattle.std.specs.Fmt.{signed_decimal};
 ghost use Rattle.std.specs.Option.{option_copied, ForSome};
 ghost use Rattle.csv.specs.Writing as csv_text;
 ghost use Rattle.csv.specs.Writing.{default_writer, field_text, row_text};
@@ -71,6 +72,14 @@ fn push_units(line: &mut Vec<u8>, units: i64, scale: u8) -> Result<(), Memory>
     push_decimal(line, Dec { units, scale })
 }
 
+/// Puts an integer behind a line. Its text needs no quotes.
+fn push_integer(line: &mut Vec<u8>, number: i64) -> Result<(), Memory>
+    ensures { OnOk result (line.new.items ≡ line.old.items ++ field_text default_writer (signed_decimal number)) }
+{
+    line.extend_from_slice(Buffer::new().format(number).as_bytes())?;
+    Ok(())
+}
+
 /// Puts the field of a value behind a line. A null is an empty field.
 fn push_value(line: &mut Vec<u8>, value: &Value) -> Result<(), Memory>
     requires { IsWritable value.now }
@@ -78,7 +87,7 @@ fn push_value(line: &mut Vec<u8>, value: &Value) -> Result<(), Memory>
 {
     match value {
         Value::Null => Ok(()),
-        Value::Int(number) => push_field(line, Buffer::new().format(*number).as_bytes()),
+        Value::Int(number) => push_integer(line, *number),
         Value::Text(text) => push_field(line, text.as_str().as_bytes()),
         Value::Decimal(number) => push_units(line, number.units, number.scale),
     }

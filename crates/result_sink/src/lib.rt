@@ -1,10 +1,13 @@
 //! The answer of a block in its order, and its text as CSV.
 #![tactic(auto)]
 
+mod arranging;
 mod cell;
+mod comparing;
 mod fault;
 mod field;
 mod ordering;
+mod prefix;
 mod record;
 #[cfg(test)]
 mod tests;

@@ -4,7 +4,7 @@ ghost use Rattle.std.specs.Prelude.{◌≡◌, OnOk, OnErr, map};
 ghost use Rattle.std.specs.List.{flat_map};
 ghost use Rattle.csv.specs.Writing.{default_writer, row_text};
 ghost use Rattle.bag_meaning.specs.Answer.{heading_fields, answer_text};
-ghost use Rattle.outside.specs.Faults.{NeverFalls, Rose};
+ghost use Rattle.outside.specs.Faults.{NeverFalls, RoseOrFull};
 ghost use Rattle.outside.specs.Told.{Adds, AddsFront};
 ghost use Rattle.result_sink.specs.Ready.{IsShown, rows_of_combo, record_text};
 
@@ -20,7 +20,7 @@ use std::alloc::Global;
 fn put_line<O: Sink>(line: &[u8], out: &mut O) -> Result<(), WriteFault>
     ensures counts { NeverFalls (O.faults out.old) (O.faults out.new) }
     ensures ok { OnOk result (Adds (O.written out.old) (O.written out.new) line.now) }
-    ensures failed { OnErr result (Rose (O.faults out.old) (O.faults out.new)) }
+    ensures failed { OnErr result (RoseOrFull (O.faults out.old) (O.faults out.new)) }
     ensures front { OnErr result (AddsFront (O.written out.old) (O.written out.new) line.now) }
     ensures kept { OnOk result (O.faults out.new ≡ O.faults out.old) }
 {
@@ -35,7 +35,7 @@ fn put_heading<O: Sink>(line: &mut Vec<u8>, block: &Block, out: &mut O) -> Resul
     ensures counts { NeverFalls (O.faults out.old) (O.faults out.new) }
     ensures ok { OnOk result (Adds (O.written out.old) (O.written out.new)
         (row_text default_writer (heading_fields block.now))) }
-    ensures failed { result ≡ Err WriteFault.Failed → Rose (O.faults out.old) (O.faults out.new) }
+    ensures failed { result ≡ Err WriteFault.Failed → RoseOrFull (O.faults out.old) (O.faults out.new) }
     ensures front { OnErr result (AddsFront (O.written out.old) (O.written out.new)
         (row_text default_writer (heading_fields block.now))) }
     ensures kept { OnOk result (O.faults out.new ≡ O.faults out.old) }
@@ -58,7 +58,7 @@ fn put_record<O: Sink>(
     ensures counts { NeverFalls (O.faults out.old) (O.faults out.new) }
     ensures ok { OnOk result (Adds (O.written out.old) (O.written out.new)
         (record_text block.now tables.now combo.now)) }
-    ensures failed { result ≡ Err WriteFault.Failed → Rose (O.faults out.old) (O.faults out.new) }
+    ensures failed { result ≡ Err WriteFault.Failed → RoseOrFull (O.faults out.old) (O.faults out.new) }
     ensures front { OnErr result (AddsFront (O.written out.old) (O.written out.new)
         (record_text block.now tables.now combo.now)) }
     ensures kept { OnOk result (O.faults out.new ≡ O.faults out.old) }
@@ -81,7 +81,7 @@ fn put_records<O: Sink>(
     ensures counts { NeverFalls (O.faults out.old) (O.faults out.new) }
     ensures ok { OnOk result (Adds (O.written out.old) (O.written out.new)
         (flat_map (record_text block.now tables.now) combos.now)) }
-    ensures failed { result ≡ Err WriteFault.Failed → Rose (O.faults out.old) (O.faults out.new) }
+    ensures failed { result ≡ Err WriteFault.Failed → RoseOrFull (O.faults out.old) (O.faults out.new) }
     ensures front { OnErr result (AddsFront (O.written out.old) (O.written out.new)
         (flat_map (record_text block.now tables.now) combos.now)) }
     ensures kept { OnOk result (O.faults out.new ≡ O.faults out.old) }
@@ -112,7 +112,7 @@ pub fn write_answer<O: Sink>(
     ensures counts { NeverFalls (O.faults out.old) (O.faults out.new) }
     ensures ok { OnOk result (Adds (O.written out.old) (O.written out.new)
         (answer_text block.now tables.now (map (rows_of_combo block.now) combos.now))) }
-    ensures failed { result ≡ Err WriteFault.Failed → Rose (O.faults out.old) (O.faults out.new) }
+    ensures failed { result ≡ Err WriteFault.Failed → RoseOrFull (O.faults out.old) (O.faults out.new) }
     ensures front { OnErr result (AddsFront (O.written out.old) (O.written out.new)
         (answer_text block.now tables.now (map (rows_of_combo block.now) combos.now))) }
     ensures kept { OnOk result (O.faults out.new ≡ O.faults out.old) }

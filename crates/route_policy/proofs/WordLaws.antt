@@ -4,7 +4,7 @@ use Rattle.std.proofs.lemmas.Bool.{cases_Bool, cases_lt, lt-ltb, le-ltb, ltb-tru
 use Rattle.route_policy.specs.declared.word.RouteWord.{RouteWord}
 use Rattle.route_policy.specs.declared.word.RouteWord.TheVariants as word
 use Rattle.route_policy.specs.Script.{IsWord, numeral, word_text}
-use Rattle.route_policy.specs.ScriptReading.{is_digit, below_limit, number_of, lettered, read_word}
+use Rattle.route_policy.specs.ScriptReading.{is_digit, below_limit, digits_number, lettered, read_word}
 
 -- a number below a limit, and its text
 pub record Spells (limit : ℕ) (digits : List ℕ) (n : ℕ) : Type 0 where
@@ -40,9 +40,9 @@ is_digit-true d h = let parts = and_parts (nat_le 48 d) (nat_le d 57) h in (leb-
 pub is_digit-from : (d : ℕ) → 48 ≤ d → d ≤ 57 → is_digit d ≡ true
 is_digit-from d low high = and_from (nat_le 48 d) (nat_le d 57) (le-leb 48 d low) (le-leb d 57 high)
 
-pub number_of-Some : (limit : ℕ) (digits : List ℕ) (n : ℕ) → number_of limit digits ≡ Some n → Spells limit digits n
-number_of-Some limit [] n h = absurd (cc h)
-number_of-Some limit (d ∷ []) n h =
+pub digits_number-Some : (limit : ℕ) (digits : List ℕ) (n : ℕ) → digits_number limit digits ≡ Some n → Spells limit digits n
+digits_number-Some limit [] n h = absurd (cc h)
+digits_number-Some limit (d ∷ []) n h =
     let parts = some_under (is_digit d) (below_limit limit (d - 48)) n h in
     let digit = is_digit-true d parts.0 in
     let value = below_limit-Some limit (d - 48) n parts.1 in
@@ -51,7 +51,7 @@ number_of-Some limit (d ∷ []) n h =
       text = numeral-one n (omega (arith, digit.0, digit.1, value.1)) ∙ ap (λ x. x ∷ []) same;
       below = omega (arith, value.0, value.1);
     }
-number_of-Some limit (d ∷ e ∷ []) n h =
+digits_number-Some limit (d ∷ e ∷ []) n h =
     let parts = some_under (is_digit d && is_digit e && nat_lt 48 d) (below_limit limit (10 * (d - 48) + (e - 48))) n h in
     let tests = and_parts (is_digit d && is_digit e) (nat_lt 48 d) parts.0 in
     let digits = and_parts (is_digit d) (is_digit e) tests.0 in
@@ -65,15 +65,15 @@ number_of-Some limit (d ∷ e ∷ []) n h =
       text = numeral-two n (omega (arith, some, last.0, value.1)) ∙ ap (λ x. x ∷ (48 + n % 10) ∷ []) tens ∙ ap (λ x. d ∷ x ∷ []) ones;
       below = omega (arith, value.0, value.1);
     }
-number_of-Some limit (d ∷ e ∷ (f ∷ more)) n h = absurd (cc h)
+digits_number-Some limit (d ∷ e ∷ (f ∷ more)) n h = absurd (cc h)
 
-pub number_of-numeral : (limit n : ℕ) → n < limit → limit ≤ 100 → number_of limit (numeral n) ≡ Some n
-number_of-numeral limit n below small = by (cases_lt n 10)
+pub digits_number-numeral : (limit n : ℕ) → n < limit → limit ≤ 100 → digits_number limit (numeral n) ≡ Some n
+digits_number-numeral limit n below small = by (cases_lt n 10)
   where
-    by : (n < 10) ⊎ (10 ≤ n) → number_of limit (numeral n) ≡ Some n
+    by : (n < 10) ⊎ (10 ≤ n) → digits_number limit (numeral n) ≡ Some n
     by (inl one) =
         let same : 48 + n - 48 ≡ n = omega arith in
-        ap (number_of limit) (numeral-one n one)
+        ap (digits_number limit) (numeral-one n one)
         ∙ cond-true (is_digit (48 + n)) _ _ (is_digit-from (48 + n) (omega arith) (omega arith))
         ∙ ap (below_limit limit) same ∙ below_limit-from limit n below
     by (inr two) =
@@ -81,7 +81,7 @@ number_of-numeral limit n below small = by (cases_lt n 10)
         let first : is_digit (48 + n / 10) ≡ true = is_digit-from (48 + n / 10) (omega arith) (omega arith) in
         let last : is_digit (48 + n % 10) ≡ true = is_digit-from (48 + n % 10) (omega arith) (omega arith) in
         let some : nat_lt 48 (48 + n / 10) ≡ true = lt-ltb 48 (48 + n / 10) (omega arith) in
-        ap (number_of limit) (numeral-two n two)
+        ap (digits_number limit) (numeral-two n two)
         ∙ cond-true (is_digit (48 + n / 10) && is_digit (48 + n % 10) && nat_lt 48 (48 + n / 10)) _ _
         (and_from _ _ (and_from _ _ first last) some)
         ∙ ap (below_limit limit) same ∙ below_limit-from limit n below
@@ -110,26 +110,26 @@ lettered-Some letter number w h = by_s (cases_Bool (letter == 115))
   where
     by_v : (letter == 115) ≡ false → (letter == 97) ≡ false → IsSpelled (letter ∷ number) w
     by_v not_s not_a =
-        let rest : (if letter == 118 then option_map word.By (number_of 48 number) else None) ≡ Some w =
+        let rest : (if letter == 118 then option_map word.By (digits_number 48 number) else None) ≡ Some w =
         sym (cond-false (letter == 115) _ _ not_s ∙ cond-false (letter == 97) _ _ not_a) ∙ h in
-        let parts = some_under (letter == 118) (option_map word.By (number_of 48 number)) w rest in
-        let made = option_map-Some word.By (number_of 48 number) w parts.1 in
-        let spells = number_of-Some 48 number made.0 made.1 in
+        let parts = some_under (letter == 118) (option_map word.By (digits_number 48 number)) w rest in
+        let made = option_map-Some word.By (digits_number 48 number) w parts.1 in
+        let spells = digits_number-Some 48 number made.0 made.1 in
         spelled_by letter 118 number 48 made.0 w (word.By made.0) spells (eqb-true letter 118 parts.0) made.2 refl spells.below
 
     by_a : (letter == 115) ≡ false → ((letter == 97) ≡ true) ⊎ ((letter == 97) ≡ false) → IsSpelled (letter ∷ number) w
     by_a not_s (inl is) =
         let made =
-        option_map-Some word.All (number_of 12 number) w
+        option_map-Some word.All (digits_number 12 number) w
         (sym (cond-false (letter == 115) _ _ not_s ∙ cond-true (letter == 97) _ _ is) ∙ h) in
-        let spells = number_of-Some 12 number made.0 made.1 in
+        let spells = digits_number-Some 12 number made.0 made.1 in
         spelled_by letter 97 number 12 made.0 w (word.All made.0) spells (eqb-true letter 97 is) made.2 refl spells.below
     by_a not_s (inr isnt) = by_v not_s isnt
 
     by_s : ((letter == 115) ≡ true) ⊎ ((letter == 115) ≡ false) → IsSpelled (letter ∷ number) w
     by_s (inl is) =
-        let made = option_map-Some word.Select (number_of 48 number) w (sym (cond-true (letter == 115) _ _ is) ∙ h) in
-        let spells = number_of-Some 48 number made.0 made.1 in
+        let made = option_map-Some word.Select (digits_number 48 number) w (sym (cond-true (letter == 115) _ _ is) ∙ h) in
+        let spells = digits_number-Some 48 number made.0 made.1 in
         spelled_by letter 115 number 48 made.0 w (word.Select made.0) spells (eqb-true letter 115 is) made.2 refl spells.below
     by_s (inr isnt) = by_a isnt (cases_Bool (letter == 97))
 
@@ -156,6 +156,6 @@ read_word-lettered letter n = by (cases_lt n 10)
 pub read_word-text : (w : RouteWord) → IsWord w → read_word (word_text w) ≡ Some w
 read_word-text word.Build known = refl
 read_word-text (word.Select n) known =
-    read_word-lettered 115 n ∙ ap (option_map word.Select) (number_of-numeral 48 n known (lit≤ tt))
-read_word-text (word.All n) known = read_word-lettered 97 n ∙ ap (option_map word.All) (number_of-numeral 12 n known (lit≤ tt))
-read_word-text (word.By n) known = read_word-lettered 118 n ∙ ap (option_map word.By) (number_of-numeral 48 n known (lit≤ tt))
+    read_word-lettered 115 n ∙ ap (option_map word.Select) (digits_number-numeral 48 n known (lit≤ tt))
+read_word-text (word.All n) known = read_word-lettered 97 n ∙ ap (option_map word.All) (digits_number-numeral 12 n known (lit≤ tt))
+read_word-text (word.By n) known = read_word-lettered 118 n ∙ ap (option_map word.By) (digits_number-numeral 48 n known (lit≤ tt))

@@ -8,7 +8,7 @@ use Rattle.tuple_span.specs.declared.route.Route.{Route}
 use Rattle.tuple_span.specs.declared.route.Route.TheVariants as route
 use Rattle.route_policy.specs.declared.word.RouteWord.{RouteWord}
 use Rattle.route_policy.specs.declared.word.RouteWord.TheVariants as word
-use Rattle.route_policy.specs.Counts.{raised}
+use Rattle.route_policy.specs.Counts.{counted_up}
 use Rattle.route_policy.specs.Routes.{first_candidate}
 
 -- a script: its words, and the choices made
@@ -59,24 +59,24 @@ is_probe_by conjunct (route.Build alias) = false
 is_probe_by conjunct (route.Probe alias by) = goes_by conjunct by
 
 -- whether a word matches a route
-abbrev pub is_match : RouteWord → Route → Bool
-is_match word.Build = is_build
-is_match (word.Select conjunct) = is_selection conjunct
-is_match (word.All alias) = is_probe_of_all alias
-is_match (word.By conjunct) = is_probe_by conjunct
+abbrev pub is_wanted : RouteWord → Route → Bool
+is_wanted word.Build = is_build
+is_wanted (word.Select conjunct) = is_selection conjunct
+is_wanted (word.All alias) = is_probe_of_all alias
+is_wanted (word.By conjunct) = is_probe_by conjunct
 
 -- the place of the first route that the first word with a match matches, or of the first candidate where no word
 -- matches
 abbrev pub script_choice : List RouteWord → List Route → ℕ
 script_choice words legal =
     option_map_or
-    (λ word. position_or_len (is_match word) legal)
-    (find (λ word. list_any (is_match word) legal) words)
+    (λ word. position_or_len (is_wanted word) legal)
+    (find (λ word. list_any (is_wanted word) legal) words)
     (first_candidate legal)
 
 -- the script after a choice
 abbrev pub after_script_choice : ScriptState → ScriptState
-after_script_choice s = record s { asked = raised s.asked }
+after_script_choice s = record s { asked = counted_up s.asked }
 
 -- the conjuncts are among 48, and the aliases among 12
 abbrev pub IsWord : RouteWord → Type 0

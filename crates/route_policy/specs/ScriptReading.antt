@@ -16,19 +16,19 @@ abbrev pub below_limit : ℕ → ℕ → Option ℕ
 below_limit limit n = if nat_lt n limit then Some n else None
 
 -- the number below a limit, and so of at most two digits, that these bytes are without a leading zero
-abbrev pub number_of : ℕ → List ℕ → Option ℕ
-number_of limit [] = None
-number_of limit (d ∷ []) = if is_digit d then below_limit limit (d - 48) else None
-number_of limit (d ∷ e ∷ []) =
+abbrev pub digits_number : ℕ → List ℕ → Option ℕ
+digits_number limit [] = None
+digits_number limit (d ∷ []) = if is_digit d then below_limit limit (d - 48) else None
+digits_number limit (d ∷ e ∷ []) =
     if is_digit d && is_digit e && nat_lt 48 d then below_limit limit (10 * (d - 48) + (e - 48)) else None
-number_of limit (d ∷ e ∷ (f ∷ more)) = None
+digits_number limit (d ∷ e ∷ (f ∷ more)) = None
 
 -- the word that a letter and the bytes behind it are
 abbrev pub lettered : ℕ → List ℕ → Option RouteWord
 lettered letter number =
-    if letter == 115 then option_map word.Select (number_of 48 number)
-    else if letter == 97 then option_map word.All (number_of 12 number)
-    else if letter == 118 then option_map word.By (number_of 48 number)
+    if letter == 115 then option_map word.Select (digits_number 48 number)
+    else if letter == 97 then option_map word.All (digits_number 12 number)
+    else if letter == 118 then option_map word.By (digits_number 48 number)
     else None
 
 -- the word that these bytes are

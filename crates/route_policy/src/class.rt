@@ -1,7 +1,7 @@
 //! The classes of routes, and the modules that they lead to.
 
 ghost use Rattle.std.specs.Prelude.{◌≡◌, ◌<◌, ◌≤◌, length, All, Any};
-ghost use Rattle.route_policy.specs.Routes.{class_of, class_of_probe, module_of, AreChoices, IsRoute, first_candidate};
+ghost use Rattle.route_policy.specs.Routes.{route_class, class_of_probe, module_of, AreChoices, IsRoute, first_candidate};
 
 use tuple_span::{Route, Via};
 
@@ -9,8 +9,8 @@ use tuple_span::{Route, Via};
 pub(crate) const MODULES: usize = 60;
 
 /// The class of a route: 1 where at most what meets a condition comes, 4 where all comes.
-pub(crate) fn class_of(route: &Route) -> u8
-    ensures { result ≡ class_of route.now }
+pub(crate) fn route_class(route: &Route) -> u8
+    ensures { result ≡ route_class route.now }
 {
     match route {
         Route::Select(_) | Route::Build { .. } => 1,
@@ -50,7 +50,7 @@ pub(crate) fn first_candidate(legal: &[Route]) -> usize
 {
     let mut best = 0;
     for place in 1..legal.len() {
-        if class_of(&legal[place]) < class_of(&legal[best]) {
+        if route_class(&legal[place]) < route_class(&legal[best]) {
             best = place;
         }
     }

@@ -5,7 +5,7 @@ ghost use Rattle.tuple_span.specs.Parts.{Parts};
 ghost use Rattle.tuple_span.specs.declared.route.Route.{Route as TheRoute};
 ghost use Rattle.route_policy.specs.declared.call.PolicyCall.{PolicyCall};
 ghost use Rattle.route_policy.specs.Routes.{AreChoices, IsRoute};
-ghost use Rattle.route_policy.specs.Counts.{raised};
+ghost use Rattle.route_policy.specs.Counts.{counted_up};
 ghost use Rattle.route_policy.specs.Calls.{Tells, chose, returned};
 
 use tuple_span::{Route, Tuple};
@@ -33,7 +33,7 @@ pub trait Policy: Drop {
     fn choose(&mut self, tuple: &Tuple, legal: &[Route]) -> usize
         requires choices { AreChoices legal.now }
         ensures within { result < length legal.now }
-        ensures asked { asked self.new ≡ raised (asked self.old) }
+        ensures asked { asked self.new ≡ counted_up (asked self.old) }
         ensures told { Tells (calls self.old) (calls self.new) (chose tuple.now legal.now result) }
         ensures chosen { may_choose self.old tuple.now legal.now result self.new };
 

@@ -2,9 +2,9 @@
 
 ghost use Rattle.std.specs.Prelude.{◌≡◌, ◌&&◌, ◌||◌, ◌==◌, nat_lt, None, slice_index, ◌+◌, ◌*◌, ◌%◌, ◌^◌, ◌<◌, ◌≤◌, ◌∷◌, ℕ, length, sum, map, IsTrue, All};
 ghost use Rattle.route_policy.specs.Pressure.{fresh_pressure, load_of, pressure_choice, after_pressure_choice, after_pressure_return, halved, loaded};
-ghost use Rattle.route_policy.specs.Routes.{AreChoices, IsRoute, is_candidate, class_of, module_of};
+ghost use Rattle.route_policy.specs.Routes.{AreChoices, IsRoute, is_candidate, route_class, module_of};
 
-use crate::class::{class_of, module_of};
+use crate::class::{module_of, route_class};
 use crate::count::{ends_round, next_round};
 use crate::policy::Policy;
 use std::marker::Model;
@@ -41,11 +41,11 @@ struct Rank {
 /// The rank of a route.
 fn rank_of(loads: &[u64; 60], route: &Route) -> Rank
     requires { IsRoute route.now }
-    ensures class { result.class ≡ class_of route.now }
+    ensures class { result.class ≡ route_class route.now }
     ensures load { result.load ≡ load_of loads.now route.now }
 {
     Rank {
-        class: class_of(route),
+        class: route_class(route),
         load: loads[module_of(route)],
     }
 }

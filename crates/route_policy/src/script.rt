@@ -2,7 +2,7 @@
 
 ghost use Rattle.std.specs.Prelude.{◌≡◌, ◌==◌, ◌<◌, ◌∷◌, length, position, None, IfSome};
 ghost use Rattle.std.specs.Option.{option_copied};
-ghost use Rattle.route_policy.specs.Script.{is_match, script_choice, after_script_choice};
+ghost use Rattle.route_policy.specs.Script.{is_wanted, script_choice, after_script_choice};
 ghost use Rattle.route_policy.specs.Routes.{AreChoices};
 ghost use Rattle.route_policy.specs.ScriptLaw.{ScriptLaw};
 ghost use Rattle.route_policy.specs.ScriptReading.{script_of, pieces_of, pieces_left, text_pieces};
@@ -99,9 +99,9 @@ pub fn script_law()
 
 /// The place of the first route that a word matches.
 fn first_match(word: RouteWord, legal: &[Route]) -> Option<usize>
-    ensures { result ≡ position (is_match word) legal.now }
+    ensures { result ≡ position (is_wanted word) legal.now }
 {
-    legal.iter().position(|route| word.is_match(route))
+    legal.iter().position(|route| word.is_wanted(route))
 }
 
 /// The place of the route that the words decide for.

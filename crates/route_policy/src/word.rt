@@ -1,8 +1,8 @@
 //! The words of a route script.
 
 ghost use Rattle.std.specs.Prelude.{◌≡◌, ◌+◌, ◌*◌, ◌<◌, ◌≤◌, length, IfSome};
-ghost use Rattle.route_policy.specs.Script.{is_match, goes_by};
-ghost use Rattle.route_policy.specs.ScriptReading.{number_of, lettered, read_word};
+ghost use Rattle.route_policy.specs.Script.{is_wanted, goes_by};
+ghost use Rattle.route_policy.specs.ScriptReading.{digits_number, lettered, read_word};
 
 use tuple_span::{Route, Via};
 
@@ -27,8 +27,8 @@ impl Default for RouteWord {
 
 impl RouteWord {
     /// Whether it matches a route.
-    pub(crate) fn is_match(&self, route: &Route) -> bool
-        ensures { result ≡ is_match self.now route.now }
+    pub(crate) fn is_wanted(&self, route: &Route) -> bool
+        ensures { result ≡ is_wanted self.now route.now }
     {
         match (self, route) {
             (RouteWord::Build, Route::Build { .. }) => true,
@@ -57,8 +57,8 @@ fn goes_by(conjunct: u8, via: &Via) -> bool
 }
 
 /// The number below a limit that these bytes are in decimal digits, without a leading zero.
-fn number_of(limit: u8, digits: &[u8]) -> Option<u8>
-    ensures value { result ≡ number_of limit digits.now }
+fn digits_number(limit: u8, digits: &[u8]) -> Option<u8>
+    ensures value { result ≡ digits_number limit digits.now }
     ensures short { IfSome result (λ _. length digits.now ≤ 2) }
 {
     let number = match digits {
@@ -76,9 +76,9 @@ pub(crate) fn read_word(bytes: &[u8]) -> Option<RouteWord>
 {
     match bytes {
         [b'b'] => Some(RouteWord::Build),
-        [b's', digits @ ..] => Some(RouteWord::Select(number_of(48, digits)?)),
-        [b'a', digits @ ..] => Some(RouteWord::All(number_of(12, digits)?)),
-        [b'v', digits @ ..] => Some(RouteWord::By(number_of(48, digits)?)),
+        [b's', digits @ ..] => Some(RouteWord::Select(digits_number(48, digits)?)),
+        [b'a', digits @ ..] => Some(RouteWord::All(digits_number(12, digits)?)),
+        [b'v', digits @ ..] => Some(RouteWord::By(digits_number(48, digits)?)),
         _ => None,
     }
 }

@@ -8,3 +8,4 @@ pub mod Numeral
 pub mod Decimal
 pub mod Relation
 pub mod Flat
+pub mod Text

@@ -57,6 +57,19 @@ impl Table {
         })
     }
 
+    /// Takes the room for so many rows more at once, so that pushing them takes no memory but their
+    /// texts'.
+    ///
+    /// # Errors
+    /// `Memory`: there is no memory for so many rows.
+    pub fn reserve(&mut self, rows: u32) -> Result<(), Memory>
+        ensures { self.new ≡ self.old }
+    {
+        let width = self.columns.len();
+        self.values.reserve(rows as usize * width)?;
+        Ok(())
+    }
+
     /// Puts a row behind the others. It has one value for each column, null or of the column's
     /// type, and the table has fewer than 4,294,967,295 rows.
     ///
@@ -68,7 +81,23 @@ impl Table {
         ensures ok { OnOk result (self.new ≡ record self.old { rows = self.old.rows ++ row.items ∷ [] }) }
         ensures err { OnErr result (self.new ≡ self.old) }
     {
-        self.values.append(&mut row)?;
+        self.append_row(&mut row)
+    }
+
+    /// Moves a row behind the others, and leaves its list empty, with its room. The row has one value
+    /// for each column, null or of the column's type, and the table has fewer than 4,294,967,295 rows.
+    ///
+    /// # Errors
+    /// `Memory`: there is no memory for the row. The table and the list are unchanged.
+    pub fn append_row(&mut self, row: &mut Vec<Value>) -> Result<(), Memory>
+        requires fits { IsRow self.old.columns row.old.items }
+        requires room { length self.old.rows < 4294967295 }
+        ensures ok { OnOk result (self.new ≡ record self.old { rows = self.old.rows ++ row.old.items ∷ [] }) }
+        ensures moved { OnOk result (row.new.items ≡ []) }
+        ensures err { OnErr result (self.new ≡ self.old) }
+        ensures kept { OnErr result (row.new.items ≡ row.old.items) }
+    {
+        self.values.append(row)?;
         self.rows += 1;
         Ok(())
     }

@@ -411,8 +411,10 @@ fn crosses_threads<T: Send + Sync>(_value: &T) {}
 #[test]
 fn tables_keep_what_they_are_given(rt: HostRuntime) -> Result<(), Fail> {
     let alloc = rt.alloc();
+    for text in ["", "twenty-four bytes are it", "twenty-five bytes are not"] {
+        assert_eq!(rt; SqText::of(alloc, text)?.as_str(), text);
+    }
     let name = SqText::of(alloc, "a")?;
-    assert_eq!(rt; name.as_str(), "a");
     let columns = Vec::from_array(
         alloc,
         [Column {
@@ -426,11 +428,15 @@ fn tables_keep_what_they_are_given(rt: HostRuntime) -> Result<(), Fail> {
     table.push_row(Vec::from_array(alloc, [Value::Int(1)])?)?;
     assert_eq!(rt; table.rows(), 1);
     assert!(rt; matches!(table.value(0, 0), Value::Int(1)));
+    table.reserve(2)?;
+    let mut row = Vec::from_array(alloc, [Value::Int(2)])?;
+    table.append_row(&mut row)?;
+    assert!(rt; row.is_empty() && matches!(table.value(1, 0), Value::Int(2)));
     let mut tables = Tables::new(alloc);
     assert_eq!(rt; tables.len(), 0);
     tables.push(table)?;
     assert_eq!(rt; tables.len(), 1);
-    assert_eq!(rt; tables.get(0).rows(), 1);
+    assert_eq!(rt; tables.get(0).rows(), 2);
     crosses_threads(&tables);
     crosses_threads(&Key::Number(1));
     Ok(())

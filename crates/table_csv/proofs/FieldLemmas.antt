@@ -14,7 +14,7 @@ use Rattle.sq_value.specs.declared.value.Value.TheVariants as value
 use Rattle.sq_value.specs.declared.value.ColType.{ColType}
 use Rattle.table_csv.specs.declared.fault.TableFault.{TableFault}
 use Rattle.table_csv.specs.declared.fault.TableFault.TheVariants as fault
-use Rattle.table_csv.specs.Fields.{field_fault, fields_fault, first_of, is_null_field, number_fault, value_of, values_of, written_value}
+use Rattle.table_csv.specs.Fields.{field_fault, fields_fault, earlier_of, is_null_field, number_fault, value_of, values_of, written_value}
 
 -- bytes that aren't UTF-8 don't pass the test
 pub is_utf8-not : (bs : List ℕ) → ¬ (IsUtf8 bs) → is_utf8 bs ≡ false
@@ -63,7 +63,7 @@ values-more cs fs i c f h e = rw (drop_more cs i c h, drop-field_at fs i f e) re
 
 pub fault-more : (rec number : ℕ) (cs : List Column) (fs : List (List ℕ)) (i : ℕ) (c : Column) (f : List ℕ) → i < length cs → field_at fs i ≡ Some f
     → fields_fault rec number (drop i cs) (drop i fs)
-    ≡ first_of (field_fault rec number (get_or cs i c).kind f) (fields_fault rec (number + 1) (drop (i + 1) cs) (drop (i + 1) fs))
+    ≡ earlier_of (field_fault rec number (get_or cs i c).kind f) (fields_fault rec (number + 1) (drop (i + 1) cs) (drop (i + 1) fs))
 unfolding fields_fault
 fault-more rec number cs fs i c f h e = rw (drop_more cs i c h, drop-field_at fs i f e) refl
 

@@ -14,7 +14,7 @@ use Rattle.sq_value.specs.declared.value.ColType.TheVariants as kind
 use Rattle.table_csv.specs.declared.fault.TableFault.{TableFault}
 use Rattle.table_csv.specs.declared.fault.TableFault.TheVariants as fault
 use Rattle.table_csv.specs.declared.types.Seen.{Seen}
-use Rattle.table_csv.specs.Fields.{first_of, records_fault, values_of}
+use Rattle.table_csv.specs.Fields.{earlier_of, records_fault, values_of}
 use Rattle.table_csv.specs.Headed.{HasColumns, IsHeaded}
 use Rattle.table_csv.specs.Heading.{columns_from, heading_fault, name_fault, type_of_column}
 use Rattle.table_csv.specs.Marks.{column_name, ends, marked_kind}
@@ -201,7 +201,7 @@ fresh-right xs name (c ∷ cs) h =
     let one = (or_parts (is_same_name c.name name) false (any-parts (is_same_name c.name) xs (name ∷ []) h.0).1).0 in
     All-cons (λ (d : Column). ¬ (IsSameName name d.name)) c cs (λ same. true≢false (sym (same_name-true c.name name (sym same)) ∙ one)) (fresh-right xs name cs h.1)
 
-first-none : (a b : Option TableFault) → first_of a b ≡ None → (a ≡ None) × (b ≡ None)
+first-none : (a b : Option TableFault) → earlier_of a b ≡ None → (a ≡ None) × (b ≡ None)
 first-none None b e = (refl, e)
 first-none (Some f) b e = absurd cc
 

@@ -10,7 +10,7 @@ use Rattle.sq_value.specs.declared.table.Column.{Column}
 use Rattle.table_csv.specs.declared.fault.TableFault.TheVariants as fault
 use Rattle.table_csv.specs.declared.heading.Named.{Named}
 use Rattle.table_csv.specs.declared.types.Seen.{Seen}
-use Rattle.table_csv.specs.Fields.{first_of}
+use Rattle.table_csv.specs.Fields.{earlier_of}
 use Rattle.table_csv.specs.Heading.{heading_fault, name_fault}
 use Rattle.table_csv.specs.Marks.{column_name}
 use Rattle.table_csv.specs.Work.{column_of_head, completed, head_of, heads_from, names_of}
@@ -54,7 +54,7 @@ heads-end number fs heads i h = rw (drop_of_length-le fs {i = i} h) (append-nil 
 
 pub heading-fault-more : (earlier : List (List ℕ)) (number : ℕ) (fs : List (List ℕ)) (i : ℕ) (f : List ℕ) → field_at fs i ≡ Some f
     → heading_fault earlier number (drop i fs)
-    ≡ first_of (name_fault earlier number f) (heading_fault (earlier ++ column_name number f ∷ []) (number + 1) (drop (i + 1) fs))
+    ≡ earlier_of (name_fault earlier number f) (heading_fault (earlier ++ column_name number f ∷ []) (number + 1) (drop (i + 1) fs))
 unfolding heading_fault
 heading-fault-more earlier number fs i f e = rw (drop-field_at fs i f e) refl
 

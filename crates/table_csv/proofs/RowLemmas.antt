@@ -16,7 +16,7 @@ use Rattle.sq_value.specs.declared.value.Value.TheVariants as value
 use Rattle.sq_value.specs.declared.value.ColType.{ColType}
 use Rattle.sq_value.specs.declared.value.ColType.TheVariants as kind
 use Rattle.table_csv.specs.declared.fault.TableFault.TheVariants as fault
-use Rattle.table_csv.specs.Fields.{decimal_or_null, fields_fault, first_of, int_or_null, is_null_field, record_fault, records_fault, value_of, values_of}
+use Rattle.table_csv.specs.Fields.{decimal_or_null, fields_fault, earlier_of, int_or_null, is_null_field, record_fault, records_fault, value_of, values_of}
 use Rattle.table_csv.specs.Reading.{GivesNext}
 use Rattle.table_csv.specs.Work.{ScaleFits, ScalesFit}
 
@@ -76,7 +76,7 @@ record-fits rec cs fs e = by (nat_lt 4000000 rec) (length fs == length cs) refl 
 
 -- a record was read: the first fault from it on, and the rows from it on
 pub records-more : (rec : ℕ) (cs : List Column) (rows more : List (List (List ℕ))) (found : Bool) (fs : List (List ℕ)) → GivesNext rows found fs more → found ≡ true
-    → records_fault rec cs rows ≡ first_of (record_fault rec cs fs) (records_fault (rec + 1) cs more)
+    → records_fault rec cs rows ≡ earlier_of (record_fault rec cs fs) (records_fault (rec + 1) cs more)
 unfolding records_fault
 records-more rec cs rows more true fs g e = ap (records_fault rec cs) g
 records-more rec cs rows more false fs g e = absurd cc

@@ -54,9 +54,9 @@ field_fault rec number type field =
     else number_fault rec number type field
 
 -- the first of two faults
-abbrev pub first_of : Option TableFault → Option TableFault → Option TableFault
-first_of (Some f) later = Some f
-first_of None later = later
+abbrev pub earlier_of : Option TableFault → Option TableFault → Option TableFault
+earlier_of (Some f) later = Some f
+earlier_of None later = later
 
 -- the values of a record's fields under its columns
 unfoldable pub values_of : List Column → List (List ℕ) → List Value
@@ -69,7 +69,7 @@ unfoldable pub fields_fault : ℕ → ℕ → List Column → List (List ℕ) �
 fields_fault rec number [] fields = None
 fields_fault rec number (c ∷ cs) [] = None
 fields_fault rec number (c ∷ cs) (f ∷ fs) =
-    first_of (field_fault rec number c.kind f) (fields_fault rec (number + 1) cs fs)
+    earlier_of (field_fault rec number c.kind f) (fields_fault rec (number + 1) cs fs)
 
 -- the fault of a record with this number below a heading of these columns
 abbrev pub record_fault : ℕ → List Column → List (List ℕ) → Option TableFault
@@ -82,4 +82,4 @@ record_fault rec columns fields =
 unfoldable pub records_fault : ℕ → List Column → List (List (List ℕ)) → Option TableFault
 records_fault rec columns [] = None
 records_fault rec columns (fields ∷ more) =
-    first_of (record_fault rec columns fields) (records_fault (rec + 1) columns more)
+    earlier_of (record_fault rec columns fields) (records_fault (rec + 1) columns more)

@@ -11,7 +11,7 @@ use Rattle.sq_value.specs.declared.value.ColType.TheVariants as kind
 use Rattle.table_csv.specs.declared.fault.TableFault.{TableFault}
 use Rattle.table_csv.specs.declared.fault.TableFault.TheVariants as fault
 use Rattle.table_csv.specs.Marks.{marked_kind, column_name}
-use Rattle.table_csv.specs.Fields.{first_of, is_null_field}
+use Rattle.table_csv.specs.Fields.{earlier_of, is_null_field}
 
 -- the names of a heading's fields, whose numbers go on from one
 unfoldable pub names_from : ℕ → List (List ℕ) → List (List ℕ)
@@ -29,7 +29,7 @@ name_fault earlier number field =
 unfoldable pub heading_fault : List (List ℕ) → ℕ → List (List ℕ) → Option TableFault
 heading_fault earlier number [] = None
 heading_fault earlier number (field ∷ more) =
-    first_of (name_fault earlier number field)
+    earlier_of (name_fault earlier number field)
     (heading_fault (earlier ++ column_name number field ∷ []) (number + 1) more)
 
 -- the text behind a minus

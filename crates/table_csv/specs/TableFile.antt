@@ -5,7 +5,7 @@ use Rattle.sq_value.specs.Relation.{Relation}
 use Rattle.sq_value.specs.declared.table.Column.{Column}
 use Rattle.table_csv.specs.declared.fault.TableFault.{TableFault}
 use Rattle.table_csv.specs.declared.fault.TableFault.TheVariants as fault
-use Rattle.table_csv.specs.Fields.{first_of, records_fault, values_of}
+use Rattle.table_csv.specs.Fields.{earlier_of, records_fault, values_of}
 use Rattle.table_csv.specs.Heading.{columns_from, heading_fault}
 
 -- the bytes behind all byte order marks, EF BB BF, with which they begin
@@ -28,7 +28,7 @@ table_of_columns columns rows = record { columns = columns; rows = map (values_o
 abbrev pub file_fault : List (List ℕ) → List Column → List (List (List ℕ)) → Option TableFault
 file_fault heading columns rows =
     if nat_lt 64 (length heading) then Some fault.TooManyColumns
-    else first_of (heading_fault [] 1 heading) (records_fault 1 columns rows)
+    else earlier_of (heading_fault [] 1 heading) (records_fault 1 columns rows)
 
 -- the table of a heading and of the records below it, or the first fault
 abbrev pub table_below : List (List ℕ) → List (List (List ℕ)) → Result Relation TableFault

@@ -1,5 +1,5 @@
 //! The values of a record's fields under the table's columns.
-ghost use Rattle.std.specs.Prelude.{◌≡◌, ◌≢◌, ◌≤◌, None, Some, length, IfOk, IfErr, OnOk};
+ghost use Rattle.std.specs.Prelude.{◌≡◌, ◌≢◌, ◌≤◌, [], None, Some, length, IfOk, IfErr, OnOk};
 ghost use Rattle.std.specs.Str.{is_utf8};
 ghost use Rattle.csv.specs.Records.{fields_of};
 ghost use Rattle.table_csv.specs.Work.{ScaleFits, ScalesFit};
@@ -13,7 +13,7 @@ use std::alloc::Global;
 use std::str;
 
 /// The most records that a table has below its heading.
-const MOST_ROWS: u32 = 4_000_000;
+pub(crate) const MOST_ROWS: u32 = 4_000_000;
 
 /// The value of an INTEGER column's field that isn't empty.
 fn integer_value(text: &str, rec: u32, field: u32) -> Result<Value, TableFault>
@@ -67,40 +67,45 @@ fn field_value(
     }
 }
 
-/// The values of a record that has as many fields as there are columns, at most 64.
-fn values(
+/// Puts the values of a record that has as many fields as there are columns, at most 64, into an
+/// empty list.
+fn fill_values(
     alloc: Global,
     columns: &[Column],
     row: &ByteRecord,
     rec: u32,
-) -> Result<Vec<Value>, TableFault>
+    values: &mut Vec<Value>,
+) -> Result<(), TableFault>
     requires scales { ScalesFit columns.now }
     requires long { length (fields_of row.now) ≡ length columns.now }
     requires few { length columns.now ≤ 64 }
-    ensures ok { IfOk result (λ values. values.items ≡ values_of columns.now (fields_of row.now)) }
+    requires none { values.old.items ≡ [] }
+    ensures ok { OnOk result (values.new.items ≡ values_of columns.now (fields_of row.now)) }
     ensures taken { OnOk result (fields_fault rec 1 columns.now (fields_of row.now) ≡ None) }
     ensures fault { IfErr result (λ fault. fault ≢ TableFault.Memory
         → fields_fault rec 1 columns.now (fields_of row.now) ≡ Some fault) }
 {
-    let mut values = Vec::with_capacity(alloc, columns.len())?;
     for i in 0..columns.len() {
         let kind = columns[i].kind;
         let field = field_of(row, i);
         values.push(field_value(alloc, kind, field, rec, i as u32 + 1)?)?;
     }
-    Ok(values)
+    Ok(())
 }
 
-/// The values of the record with this number below the heading.
-pub(crate) fn record_values(
+/// Puts the values of the record with this number below the heading into an empty list. After an
+/// error the list holds some of them.
+pub(crate) fn read_record(
     alloc: Global,
     columns: &[Column],
     row: &ByteRecord,
     rec: u32,
-) -> Result<Vec<Value>, TableFault>
+    values: &mut Vec<Value>,
+) -> Result<(), TableFault>
     requires scales { ScalesFit columns.now }
     requires few { length columns.now ≤ 64 }
-    ensures ok { IfOk result (λ values. values.items ≡ values_of columns.now (fields_of row.now)) }
+    requires none { values.old.items ≡ [] }
+    ensures ok { OnOk result (values.new.items ≡ values_of columns.now (fields_of row.now)) }
     ensures taken { OnOk result (record_fault rec columns.now (fields_of row.now) ≡ None) }
     ensures fault { IfErr result (λ fault. fault ≢ TableFault.Memory
         → record_fault rec columns.now (fields_of row.now) ≡ Some fault) }
@@ -111,5 +116,5 @@ pub(crate) fn record_values(
     if row.len() != columns.len() {
         return Err(TableFault::Unequal { rec });
     }
-    values(alloc, columns, row, rec)
+    fill_values(alloc, columns, row, rec, values)
 }

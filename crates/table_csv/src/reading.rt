@@ -1,12 +1,14 @@
 //! A table from the bytes of a file, in two passes over them: the columns, and then the rows.
-ghost use Rattle.std.specs.Prelude.{◌≡◌, ◌≢◌, length, fold, replicate, IfOk, IfErr};
+ghost use Rattle.std.specs.Prelude.{◌≡◌, ◌≢◌, [], length, fold, replicate, IfOk, IfErr};
 ghost use Rattle.csv.specs.Reading.{strip_bom};
+ghost use Rattle.sq_value.specs.Relation.{IsHeading};
 ghost use Rattle.table_csv.specs.TableFile.{behind_order_marks, table_of_bytes, table_of_records};
 ghost use Rattle.table_csv.specs.Headed.{IsHeaded};
 ghost use Rattle.table_csv.specs.Reading.{IsPlain, records_left};
 ghost use Rattle.table_csv.specs.Work.{all_learned, column_of_head, completed};
 
 use crate::fault::TableFault;
+use crate::fields::MOST_ROWS;
 use crate::heading::{MOST_COLUMNS, Named, read_heading};
 use crate::records::{next_row, plain_reader};
 use crate::rows::read_rows;
@@ -27,23 +29,34 @@ fn behind_order_marks(bytes: &[u8]) -> &[u8]
     rest
 }
 
+/// What the first pass learns of a heading's columns from the records below it.
+#[derive(Drop)]
+struct Learned {
+    /// What is known of each column's fields.
+    seen: Vec<Seen>,
+    /// How many rows to take room for. Records of another length aren't counted, so that the room
+    /// goes with the file's length, and none beyond the most that a table has.
+    rows: u32,
+}
+
 /// What the reader's records show of each of so many columns.
-fn learn_all(
-    alloc: Global,
-    reader: &mut Reader<&[u8]>,
-    width: usize,
-) -> Result<Vec<Seen>, TableFault>
+fn learn_all(alloc: Global, reader: &mut Reader<&[u8]>, width: usize) -> Result<Learned, TableFault>
     requires { IsPlain reader.old }
-    ensures ok { IfOk result (λ seen. seen.items
+    ensures ok { IfOk result (λ learned. learned.seen.items
         ≡ fold all_learned (replicate width Seen.Nulls) (records_left reader.old)) }
     ensures memory { IfErr result (λ fault. fault ≡ TableFault.Memory) }
 {
     let mut seen = vec![in alloc; Seen::Nulls; width]?;
+    let mut rows = 0u32;
     let mut row = ByteRecord::new(alloc);
     while next_row(reader, &mut row)? {
         learn_record(seen.as_mut_slice(), &row);
+        rows = rows.saturating_add(u32::from(row.len() == width));
     }
-    Ok(seen)
+    Ok(Learned {
+        seen,
+        rows: rows.min(MOST_ROWS),
+    })
 }
 
 /// The column of a head, which has the type that is known where it has no mark.
@@ -71,10 +84,17 @@ fn complete(alloc: Global, heads: &[Named], seen: &[Seen]) -> Result<Vec<Column>
     Ok(columns)
 }
 
-/// The columns of the reader's records, the first of which is the heading.
-fn read_columns(alloc: Global, reader: &mut Reader<&[u8]>) -> Result<Vec<Column>, TableFault>
+/// What the first pass finds: the columns, and how many rows to take room for.
+#[derive(Drop)]
+struct Layout {
+    columns: Vec<Column>,
+    rows: u32,
+}
+
+/// The layout of the reader's records, the first of which is the heading.
+fn read_layout(alloc: Global, reader: &mut Reader<&[u8]>) -> Result<Layout, TableFault>
     requires { IsPlain reader.old }
-    ensures ok { IfOk result (λ columns. IsHeaded (records_left reader.old) columns.items) }
+    ensures ok { IfOk result (λ layout. IsHeaded (records_left reader.old) layout.columns.items) }
     ensures fault { IfErr result (λ fault. fault ≢ TableFault.Memory
         → table_of_records (records_left reader.old) ≡ Err fault) }
 {
@@ -86,15 +106,32 @@ fn read_columns(alloc: Global, reader: &mut Reader<&[u8]>) -> Result<Vec<Column>
         return Err(TableFault::TooManyColumns);
     }
     let heads = read_heading(alloc, &row)?;
-    let seen = learn_all(alloc, reader, heads.len())?;
-    complete(alloc, heads.as_slice(), seen.as_slice())
+    let learned = learn_all(alloc, reader, heads.len())?;
+    let columns = complete(alloc, heads.as_slice(), learned.seen.as_slice())?;
+    Ok(Layout {
+        columns,
+        rows: learned.rows,
+    })
 }
 
-/// The table of the reader's records, the first of which is the heading that gives these columns.
+/// A table of these columns with room for so many rows.
+fn empty_table(alloc: Global, columns: Vec<Column>, rows: u32) -> Result<Table, TableFault>
+    requires { IsHeading columns.items }
+    ensures ok { IfOk result (λ table. table ≡ record { columns = columns.items; rows = [] }) }
+    ensures memory { IfErr result (λ fault. fault ≡ TableFault.Memory) }
+{
+    let mut table = Table::new(alloc, columns)?;
+    table.reserve(rows)?;
+    Ok(table)
+}
+
+/// The table of the reader's records, the first of which is the heading that gives these columns,
+/// with room for so many rows from the start.
 fn read_below(
     alloc: Global,
     reader: &mut Reader<&[u8]>,
     columns: Vec<Column>,
+    rows: u32,
 ) -> Result<Table, TableFault>
     requires plain { IsPlain reader.old }
     requires headed { IsHeaded (records_left reader.old) columns.items }
@@ -104,7 +141,7 @@ fn read_below(
 {
     let mut heading = ByteRecord::new(alloc);
     next_row(reader, &mut heading)?;
-    let table = Table::new(alloc, columns)?;
+    let table = empty_table(alloc, columns, rows)?;
     read_rows(alloc, reader, table)
 }
 
@@ -123,7 +160,7 @@ pub fn read_table(alloc: Global, bytes: &[u8]) -> Result<Table, TableFault>
 {
     let bytes = behind_order_marks(bytes);
     let mut first = plain_reader(alloc, bytes)?;
-    let columns = read_columns(alloc, &mut first)?;
+    let layout = read_layout(alloc, &mut first)?;
     let mut second = plain_reader(alloc, bytes)?;
-    read_below(alloc, &mut second, columns)
+    read_below(alloc, &mut second, layout.columns, layout.rows)
 }

@@ -5,7 +5,7 @@ ghost use Rattle.table_csv.specs.Reading.{IsPlain, records_left};
 ghost use Rattle.table_csv.specs.Work.{ScalesFit};
 
 use crate::fault::TableFault;
-use crate::fields::record_values;
+use crate::fields::read_record;
 use crate::records::next_row;
 use csv::{ByteRecord, Reader};
 use sq_value::Table;
@@ -27,10 +27,11 @@ pub(crate) fn read_rows(
         → records_fault 1 table.columns (records_left reader.old) ≡ Some fault) }
 {
     let mut row = ByteRecord::new(alloc);
+    let mut values = Vec::with_capacity(alloc, table.columns().len())?;
     let mut rec = 1;
     while next_row(reader, &mut row)? {
-        let values = record_values(alloc, table.columns(), &row, rec)?;
-        table.push_row(values)?;
+        read_record(alloc, table.columns(), &row, rec, &mut values)?;
+        table.append_row(&mut values)?;
         rec += 1;
     }
     Ok(table)

@@ -56,7 +56,7 @@ fn answer(alloc: Global, bytes: &[u8]) -> Result<String, AllocError> {
 
 #[test]
 fn files_as_people_write_them(rt: HostRuntime) -> Result<(), Fail> {
-    let cases: [(&[u8], &str); 56] = [
+    let cases: [(&[u8], &str); 64] = [
         (b"x\n1\n", "x i / 1 "),
         (b"x\n01\n", "x t / '01' "),
         (b":int\n+7\n", "column1 i / 7 "),
@@ -87,6 +87,14 @@ fn files_as_people_write_them(rt: HostRuntime) -> Result<(), Fail> {
         (b",b\n1,2\n", "column1 i b i / 1 2 "),
         (b"a,:dec1\n1,2\n", "a i column2 d1 / 1 20e1 "),
         (b"x\n-0\n", "x t / '-0' "),
+        (b"x\n9223372036854775807\n", "x i / 9223372036854775807 "),
+        (
+            b"x\n-9223372036854775809\n",
+            "x t / '-9223372036854775809' ",
+        ),
+        (b"x\n1.0\n", "x t / '1.0' "),
+        (b"x:text\n01\n\"\"\n", "x t / '01' / ~ "),
+        (b"x:dec6\n-0.000001\n", "x d6 / -1e6 "),
         (b"x\n+1\n", "x t / '+1' "),
         (b"x\n 1\n", "x t / ' 1' "),
         (b"x\n9223372036854775808\n", "x t / '9223372036854775808' "),
@@ -116,6 +124,12 @@ fn files_as_people_write_them(rt: HostRuntime) -> Result<(), Fail> {
             "BadInteger { rec: 1, field: 1 }",
         ),
         (b"x:dec2\n1.234\n", "BadDecimal { rec: 1, field: 1 }"),
+        (b"x:dec0\n1.\n", "BadDecimal { rec: 1, field: 1 }"),
+        (
+            b"x,y:dec1\n1,2\n3,\n4,.5\n",
+            "BadDecimal { rec: 3, field: 2 }",
+        ),
+        (b"a,b:int\n1,x\n\xFF,2\n", "BadInteger { rec: 1, field: 2 }"),
         (
             b"x:dec6\n9223372036854775807\n",
             "BadDecimal { rec: 1, field: 1 }",

@@ -7,4 +7,3 @@ pub mod Plays
 pub mod PoolPlays
 pub mod Tokens
 pub mod Boards
-pub mod Sample

@@ -17,12 +17,8 @@ mod moves;
 mod pool;
 mod pool_steps;
 mod pool_turns;
-#[cfg(test)]
-mod sample;
 mod seat;
 mod steps;
-#[cfg(test)]
-mod tests;
 mod turns;
 mod view;
 mod waiting;

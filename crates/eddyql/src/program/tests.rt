@@ -1,8 +1,9 @@
 //! The codes that the program ends with, over folders and outputs in memory; and runs of a size at
-//! which a bound on memory would show.
+//! which a bound on memory or depth would show.
 
 use super::*;
 use outside::{MemoryFolder, MemorySink};
+use sq_value::NoPredicates;
 use std::test::Fail;
 
 // The words behind the name, with blanks between them; the load and the put that fail, where there is
@@ -15,13 +16,19 @@ q|0|0|2
 q t=1 u=2 u=2|0|0|2
 1 t=1 u=2|0|0|3
 q t=2 u=1|0|0|3
-q t=q u=2|0|0|4
+q t=1 u=3|0|0|4
+--index t.z q t=1 u=2|0|0|4
 9 t=1 u=2|0|0|5
 q t=1 u=2|2|0|5
 q t=1 u=2|0|1|6
+deep t=1|0|0|7
 ";
 
 const QUERY: &[u8] = b"SELECT * FROM t, u WHERE t.c = u.d";
+
+const SPENDERS: &[u8] =
+    b"-- big spenders\nselect p.name as who, o.total from people p join orders o \
+    on o.person = p.id where o.total between 50 and 200 and p.city is not null order by o.total desc, who;";
 
 fn words_of(alloc: Global, text: &str) -> Result<Vec<String>, Fail> {
     let mut words = Vec::new(alloc);
@@ -32,11 +39,29 @@ fn words_of(alloc: Global, text: &str) -> Result<Vec<String>, Fail> {
     Ok(words)
 }
 
+// Some bytes, and others as many times.
+fn repeated(alloc: Global, first: &[u8], times: u32, part: &[u8]) -> Result<Vec<u8>, Fail> {
+    let mut bytes = Vec::new(alloc);
+    bytes.extend_from_slice(first)?;
+    for _ in 0..times {
+        bytes.extend_from_slice(part)?;
+    }
+    Ok(bytes)
+}
+
 fn folder_of(alloc: Global, script: &[u8], first: &[u8]) -> Result<MemoryFolder, Fail> {
     let mut folder = MemoryFolder::new(alloc);
     folder.keep("q", script)?;
     folder.keep("1", first)?;
     folder.keep("2", b"d\n1\n")?;
+    folder.keep("3", b"c,d\n1\n")?;
+    let deep = repeated(alloc, b"SELECT c FROM t WHERE ", 65, b"(")?;
+    folder.keep("deep", &deep)?;
+    folder.keep(
+        "people",
+        b"\xEF\xBB\xBFid,name,city\r\n1,\"Ng, Ada\",Oslo\r\n2,Bob,\r\n",
+    )?;
+    folder.keep("orders", b"oid,person,total\n7,1,120\n8,2,80\n9,1,35\n")?;
     Ok(folder)
 }
 
@@ -53,30 +78,40 @@ fn ends_with_codes(rt: HostRuntime) -> Result<(), Fail> {
         folder.fail_at(u64::from(number_of(fields.next().unwrap_or(""))))?;
         let mut out = MemorySink::with_room(rt.alloc(), 99)?;
         out.fail_at(u64::from(number_of(fields.next().unwrap_or(""))), 0)?;
-        let mut notes = MemorySink::with_room(rt.alloc(), 0)?;
-        let code = program(rt.alloc(), &words, &mut folder, &mut out, &mut notes);
+        let mut notes = MemorySink::with_room(rt.alloc(), 99)?;
+        let code = program(
+            rt.alloc(),
+            &words,
+            &mut folder,
+            &mut out,
+            &mut notes,
+            &NoPredicates,
+        );
         assert!(rt; code == ExitCode::from(number_of(fields.next().unwrap_or(""))));
     }
     Ok(())
 }
 
-// Some bytes, and others as many times.
-fn repeated(alloc: Global, first: &[u8], times: u32, part: &[u8]) -> Result<Vec<u8>, Fail> {
-    let mut bytes = Vec::new(alloc);
-    bytes.extend_from_slice(first)?;
-    for _ in 0..times {
-        bytes.extend_from_slice(part)?;
-    }
-    Ok(bytes)
-}
-
 // How many bytes a run over these files writes, where it ends with this code.
-fn written_by(alloc: Global, script: &[u8], first: &[u8], code: u8) -> Result<usize, Fail> {
-    let words = words_of(alloc, "q t=1 u=2")?;
+fn written_by(
+    alloc: Global,
+    texts: &str,
+    script: &[u8],
+    first: &[u8],
+    code: u8,
+) -> Result<usize, Fail> {
+    let words = words_of(alloc, texts)?;
     let mut folder = folder_of(alloc, script, first)?;
     let mut out = MemorySink::with_room(alloc, 99999)?;
-    let mut notes = MemorySink::with_room(alloc, 0)?;
-    let ended = program(alloc, &words, &mut folder, &mut out, &mut notes);
+    let mut notes = MemorySink::with_room(alloc, 99)?;
+    let ended = program(
+        alloc,
+        &words,
+        &mut folder,
+        &mut out,
+        &mut notes,
+        &NoPredicates,
+    );
     if ended == ExitCode::from(code) {
         Ok(out.written().len())
     } else {
@@ -84,27 +119,42 @@ fn written_by(alloc: Global, script: &[u8], first: &[u8], code: u8) -> Result<us
     }
 }
 
-// 5,000 rows that match, and a heading of four bytes.
+// 5,000 rows that match, and a heading of four bytes; 64 statements over 16 tables of 64 columns, each
+// answer of a heading of two bytes and a row of two, with an empty line between two; and 48 conjuncts
+// nested 64 deep.
 #[test]
-fn many_rows(rt: HostRuntime) -> Result<(), Fail> {
-    let table = repeated(rt.alloc(), b"c\n", 5000, b"1\n")?;
-    assert_eq!(rt; written_by(rt.alloc(), QUERY, &table, 0)?, 20004);
+fn of_a_size(rt: HostRuntime) -> Result<(), Fail> {
+    let alloc = rt.alloc();
+    let long = repeated(alloc, b"c\n", 5000, b"1\n")?;
+    assert_eq!(rt; written_by(alloc, "q t=1 u=2", QUERY, &long, 0)?, 20004);
+    let mut wide = repeated(alloc, b"c", 63, b",")?;
+    wide.extend_from_slice(repeated(alloc, b"\n1", 63, b",1")?.as_slice())?;
+    let statements = repeated(alloc, b"SELECT c FROM t", 63, b";SELECT c FROM t")?;
+    let sixteen = "q a=1 b=1 c=1 d=1 e=1 f=1 g=1 h=1 i=1 j=1 k=1 l=1 m=1 n=1 t=1 u=1";
+    assert_eq!(rt;
+        written_by(alloc, sixteen, &statements, &wide, 0)?,
+        64 * 4 + 63
+    );
+    let mut nested = repeated(alloc, b"SELECT c FROM t WHERE ", 47, b"c = 1 AND ")?;
+    nested.extend_from_slice(repeated(alloc, b"", 64, b"(")?.as_slice())?;
+    nested.extend_from_slice(repeated(alloc, b"c = 1", 64, b")")?.as_slice())?;
+    assert_eq!(rt; written_by(alloc, "q t=1", &nested, b"c\n1\n", 0)?, 4);
     Ok(())
 }
 
-// Scripts of 200 kB: one in the early form behind a comment, and one of 20,001 comparisons.
+// Each front of a script, cut at each byte, is done or isn't a script, and what isn't writes nothing.
 #[test]
-fn long_scripts(rt: HostRuntime) -> Result<(), Fail> {
-    let mut commented = repeated(rt.alloc(), b"--", 200000, b"-")?;
-    commented.push(b'\n')?;
-    commented.extend_from_slice(QUERY)?;
-    assert_eq!(rt; written_by(rt.alloc(), &commented, b"c\n1\n", 0)?, 8);
-    let long = repeated(
-        rt.alloc(),
-        b"SELECT x FROM n WHERE x = 1",
-        20000,
-        b" AND x = 1",
-    )?;
-    assert_eq!(rt; written_by(rt.alloc(), &long, b"c\n1\n", 3)?, 0);
+fn fronts_of_a_script(rt: HostRuntime) -> Result<(), Fail> {
+    let texts = "q people=people orders=orders";
+    assert_eq!(rt; written_by(rt.alloc(), texts, SPENDERS, b"", 0)?, 24);
+    for end in 0..SPENDERS.len() {
+        let front = &SPENDERS[..end];
+        let refused = written_by(rt.alloc(), texts, front, b"", 3)?;
+        if refused == usize::MAX {
+            assert!(rt; written_by(rt.alloc(), texts, front, b"", 0)? != usize::MAX);
+        } else {
+            assert_eq!(rt; refused, 0);
+        }
+    }
     Ok(())
 }

@@ -1,165 +1,199 @@
 //! Whole runs over memory. What is expected was worked out by hand.
 //!
-//! A case is a line of fields with bars between: the words, the script, the tables `1` and `2`, what
-//! fails, the exit status and the status, and what is written. A dot stands for the field of the
-//! worked example, a slash for the end of a line, and words of `-` for none.
+//! A case is a line of fields with bars between: the words, the script, what fails, the exit status and
+//! the status, what is written, and the note. A slash stands for the end of a line. A word of a name
+//! alone is a table of that name in the file of that name, behind the script's file `q`; words that
+//! begin with `!` stand as they are.
 
 use super::run;
 use crate::status::Status;
-use outside::{Folder, MemoryFolder, MemorySink, Sink, SureFolder, SureSink};
+use outside::{MemoryFolder, MemorySink, SureFolder, SureSink};
+use sq_value::NoPredicates;
 use std::alloc::Global;
 use std::test::Fail;
 
-const WORDS: &str = "q t=1 u=2";
-
-const QUERY: &str = "SELECT * FROM t, u WHERE t.c = u.d";
-
-const T: &str = "c,k/1,10/2,20/";
-
-const U: &str = "d/2/1/2/";
-
-const DONE: &str = "0 Done";
-
-const ANSWER: &str = "c,k,d/1,10,1/2,20,2/2,20,2/";
-
-// The worked example, and the order of faults.
-const RUNS: &str = "\
-. | . | . | . | . | . | .\n\
-. | SELECT * FROM u, t WHERE u.d = t.c | . | . | . | . | d,c,k/2,2,20/1,1,10/2,2,20/\n\
-. | SELECT c FROM t | . | . | . | 3 Script { fault: Syntax { at: 0 } } | \n\
-. | SELECT * FROM t, u WHERE t.c = u.e | . | . | . | 3 Bind { statement: 1, fault: UnknownColumn { at: 0 } } | \n\
-. | . | . | x/a/ | . | 4 BadTable { table: 1, fault: NoHeading } | \n\
-- | . | . | . | . | 2 Usage | \n\
-q | . | . | . | . | 2 Usage | \n\
-q t=1 u= | . | . | . | . | 2 Usage | \n\
-q t=1 T=2 | . | . | . | . | 2 Usage | \n\
-q t=1 1u=2 | . | . | . | . | 2 Usage | \n\
-q abcdefghijklmnopqrstuvwxyzabcdefghijklmnopqrstuvwxyzabcdefghijkl=1 u=2 | SELECT * FROM abcdefghijklmnopqrstuvw\
-    xyzabcdefghijklmnopqrstuvwxyzabcdefghijkl, u WHERE abcdefghijklmnopqrstuvwxyzabcdefghijklmnopqrstuvwxyzabcde\
-    fghijkl.c = u.d | . | . | . | . | .\n\
-q abcdefghijklmnopqrstuvwxyzabcdefghijklmnopqrstuvwxyzabcdefghijklm=1 u=2 | SELECT * FROM abcdefghijklmnopqrstuv\
-    wxyzabcdefghijklmnopqrstuvwxyzabcdefghijkl, u WHERE abcdefghijklmnopqrstuvwxyzabcdefghijklmnopqrstuvwxyzabcd\
-    efghijkl.c = u.d | . | . | . | 2 Usage | \n\
-q u=2 t=1 | . | . | . | . | . | .\n\
-. | SELECT * FROM t, u WHERE t.c = u.d-- | . | . | . | . | .\n\
-. | -- all\r/select\t*From t,u/wHERE t . c=u.d -- x | . | . | . | . | .\n\
-. | SELECT * FROM T, U WHERE T.C = U.D | . | . | . | . | .\n\
-. | SELECT * FROM t, u WHERE t.c = u.-- d | . | . | . | 3 Script { fault: Syntax { at: 37 } } | \n\
-. | SELECT * FROM t, u WHERE t.c = u.d u | . | . | . | 3 Script { fault: Syntax { at: 35 } } | \n\
-. | SELECT * FROM t, u WHERE u.d = t.c | . | . | . | 3 Script { fault: Syntax { at: 0 } } | \n\
-. | SELECT * FROM t, v WHERE t.c = v.d | . | . | . | 3 Script { fault: Syntax { at: 0 } } | \n\
-. | SELECT * FROM \"t\", u WHERE \"t\".c = u.d | . | . | . | 3 Script { fault: Syntax { at: 0 } } | \n\
-q t=1 | SELECT * FROM T, t WHERE T.c = t.c | . | . | . | 3 Script { fault: Syntax { at: 0 } } | \n\
-q t=1 select=2 | SELECT * FROM t, select WHERE t.c = select.d | . | . | . | 3 Script { fault: Syntax { at: 17 } \
-    } | \n\
-. |  | . | . | . | 3 Script { fault: Syntax { at: 0 } } | \n\
-. | SELECT * FROM t, u WHERE t.d = u.d | . | . | . | 3 Bind { statement: 1, fault: UnknownColumn { at: 0 } } | \n\
-. | SELECT * FROM t, u WHERE t.c = u.c | . | . | . | 3 Bind { statement: 1, fault: UnknownColumn { at: 0 } } | \n\
-9 t=9 t=2 | . | . | . | . | 2 Usage | \n\
-9 t=9 u=9 | . | . | . | . | 5 NotFound { file: Script } | \n\
-q t=9 u=9 | SELECT | . | . | . | 3 Script { fault: Syntax { at: 6 } } | \n\
-q t=q u=9 | . | . | . | . | 4 BadTable { table: 0, fault: NoHeading } | \n\
-q t=9 u=q | . | . | . | . | 5 NotFound { file: Table(0) } | \n\
-q t=1 u=9 | SELECT * FROM t, u WHERE t.d = u.d | . | . | . | 5 NotFound { file: Table(1) } | \n\
-q t=1 u=q | SELECT * FROM t, u WHERE t.d = u.d | . | . | . | 4 BadTable { table: 1, fault: NoHeading } | \n\
-q u=2 t=q | . | . | . | . | 4 BadTable { table: 1, fault: NoHeading } | \n\
-q t=1 u=2 v=9 | . | . | . | . | 5 NotFound { file: Table(2) } | \n\
-q t=1 u=2 v=9 | SELECT * FROM t, u WHERE t.d = u.d | . | . | . | 5 NotFound { file: Table(2) } | \n\
-. | SELECT x FROM n WHERE x IN ( | . | . | . | 3 Script { fault: Syntax { at: 28 } } | \n\
-. | SELECT x FROM n WHERE (((((((((((((((((((((((((((((((((((((((((((((((((((((((((((((((( | . | . | . | 3 Scrip\
-    t { fault: Syntax { at: 86 } } | \n\
-. | SELECT x FROM n WHERE ((((((((((((((((((((((((((((((((((((((((((((((((((((((((((((((((( | . | . | . | 3 Scri\
-    pt { fault: TooDeep { at: 86 } } | \n\
-. | SELECT x FROM n WHERE 2147483648 * x = 1 | . | . | . | 3 Script { fault: NumberTooLarge { at: 22 } } | \n\
-. | \u{feff}SELECT * FROM t, u WHERE t.c = u.d | . | . | . | 3 Script { fault: Syntax { at: 0 } } | \n\
-. | SELECT * FROM t, u WHERE t.c = u.d; | . | . | . | 3 Script { fault: Syntax { at: 0 } } | \n\
+// The files, each its name and its text. A `^` stands for a carriage return, and a `~` for a byte that
+// is no character.
+const FILES: &str = "\
+cust | id,name/1,Ada/2,Bob/3,/\n\
+ord | oid,cid,amt/10,1,5/11,1,7/12,2,5/13,,9/\n\
+n | x/1/2/3/\n\
+t | x/1/1/\n\
+e | x:int/\n\
+m | x/9223372036854775807/\n\
+short | x,y/1/\n\
+letters | x:int/1/a/\n\
+bytes | x/1/~/\n\
+cents | x:dec2/1.234/\n\
+twice | x,X/\n\
+v | v/\"a,\"\"b\"\"\"/\n\
+one | x/1/\n\
+people | \u{feff}id,name,city^/1,\"Ng, Ada\",Oslo^/2,Bob,^/\n\
+orders | oid,person,total/7,1,120/8,2,80/9,1,35/\n\
+p | sku,cost:dec2/1,1.5/2,10/3,-0.25/4,/\n\
+r | rate:dec3/1.500/10.000/\n\
+nothing | \n\
 ";
 
-// Tables in form and out of it.
-const TABLES: &str = "\
-. | . | c,k\r/1,10\r/2,20\r/ | . | . | . | .\n\
-. | . | c,k/1,10/2,20 | . | . | . | .\n\
-. | . | c/7/ | . | . | . | c,d/\n\
-. | . | c,k/1,-9223372036854775808/ | . | . | . | c,k,d/1,-9223372036854775808,1/\n\
-. | . | a1,a2,a3,a4,a5,a6,a7,a8,a9,a10,a11,a12,a13,a14,a15,a16,a17,a18,a19,a20,a21,a22,a23,a24,a25,a26,a27,a28,a\
-    29,a30,a31,a32,a33,a34,a35,a36,a37,a38,a39,a40,a41,a42,a43,a44,a45,a46,a47,a48,a49,a50,a51,a52,a53,a54,a55,a\
-    56,a57,a58,a59,a60,a61,a62,a63,c/7,7,7,7,7,7,7,7,7,7,7,7,7,7,7,7,7,7,7,7,7,7,7,7,7,7,7,7,7,7,7,7,7,7,7,7,7,7\
-    ,7,7,7,7,7,7,7,7,7,7,7,7,7,7,7,7,7,7,7,7,7,7,7,7,7,1/ | . | . | . | a1,a2,a3,a4,a5,a6,a7,a8,a9,a10,a11,a12,a\
-    13,a14,a15,a16,a17,a18,a19,a20,a21,a22,a23,a24,a25,a26,a27,a28,a29,a30,a31,a32,a33,a34,a35,a36,a37,a38,a39,a\
-    40,a41,a42,a43,a44,a45,a46,a47,a48,a49,a50,a51,a52,a53,a54,a55,a56,a57,a58,a59,a60,a61,a62,a63,c,d/7,7,7,7,7\
-    ,7,7,7,7,7,7,7,7,7,7,7,7,7,7,7,7,7,7,7,7,7,7,7,7,7,7,7,7,7,7,7,7,7,7,7,7,7,7,7,7,7,7,7,7,7,7,7,7,7,7,7,7,7,7\
-    ,7,7,7,7,1,1/\n\
-. | . | a1,a2,a3,a4,a5,a6,a7,a8,a9,a10,a11,a12,a13,a14,a15,a16,a17,a18,a19,a20,a21,a22,a23,a24,a25,a26,a27,a28,a\
-    29,a30,a31,a32,a33,a34,a35,a36,a37,a38,a39,a40,a41,a42,a43,a44,a45,a46,a47,a48,a49,a50,a51,a52,a53,a54,a55,a\
-    56,a57,a58,a59,a60,a61,a62,a63,a64,c/7,7,7,7,7,7,7,7,7,7,7,7,7,7,7,7,7,7,7,7,7,7,7,7,7,7,7,7,7,7,7,7,7,7,7,7\
-    ,7,7,7,7,7,7,7,7,7,7,7,7,7,7,7,7,7,7,7,7,7,7,7,7,7,7,7,7,1/ | . | . | 4 BadTable { table: 0, fault: NoHeadin\
-    g } | \n\
-. | . | c,C/1,10/ | . | . | 4 BadTable { table: 0, fault: NoHeading } | \n\
-. | . | c,\"k k\"/1,10/ | . | . | 4 BadTable { table: 0, fault: NoHeading } | \n\
-. | . | c,k/01,10/ | . | . | 4 BadTable { table: 0, fault: NoHeading } | \n\
-. | . | c,k/-0,10/ | . | . | 4 BadTable { table: 0, fault: NoHeading } | \n\
-. | . | c,k/+1,10/ | . | . | 4 BadTable { table: 0, fault: NoHeading } | \n\
-. | . | c,k/9223372036854775808,10/ | . | . | 4 BadTable { table: 0, fault: NoHeading } | \n\
-. | . | c,k/1,/ | . | . | 4 BadTable { table: 0, fault: NoHeading } | \n\
-. | . | c,k/1,10/2/ | . | . | 4 BadTable { table: 0, fault: NoHeading } | \n\
-. | . | c,k/1,10/2,20,30/ | . | . | 4 BadTable { table: 0, fault: NoHeading } | \n\
-. | . | c,k/ | . | . | 4 BadTable { table: 0, fault: NoHeading } | \n\
-. | . |  | . | . | 4 BadTable { table: 0, fault: NoHeading } | \n\
-. | . | \u{feff}c,k/1,10/ | . | . | 4 BadTable { table: 0, fault: NoHeading } | \n\
+const SPENDERS: &str =
+    "-- big spenders\nselect p.name as who, o.total from people p join orders o on o.person = p.id \
+    where o.total between 50 and 200 and p.city is not null order by o.total desc, who;";
+
+// Answers.
+const DONE: &str = "\
+cust ord | SELECT name, amt FROM cust c, ord o WHERE c.id = o.cid |  | 0 Done | name,amt/Ada,5/Ada,7/Bob,5/ | \n\
+cust ord | SELECT name, amt FROM cust c, ord o WHERE c.id = o.cid ORDER BY amt DESC |  | 0 Done | name,amt/Ada,7/A\
+    da,5/Bob,5/ | \n\
+t | SELECT a.x FROM t a, t b |  | 0 Done | x/1/1/1/1/ | \n\
+n | SELECT a.x AS p, b.x AS q FROM n a, n b WHERE a.x < b.x |  | 0 Done | p,q/1,2/1,3/2,3/ | \n\
+e n | SELECT * FROM e, n |  | 0 Done | x,x/ | \n\
+ord | SELECT o.oid FROM ord o, ord p WHERE o.cid = p.cid AND o.oid <= p.oid |  | 0 Done | oid/10/10/11/12/ | \n\
+ord | SELECT oid FROM ord WHERE NOT cid = 1 |  | 0 Done | oid/12/ | \n\
+ord | SELECT oid FROM ord WHERE (cid = 1) IS UNKNOWN |  | 0 Done | oid/13/ | \n\
+ord | SELECT oid FROM ord WHERE amt NOT IN (5, NULL) |  | 0 Done | oid/ | \n\
+ord | SELECT oid FROM ord ORDER BY cid DESC |  | 0 Done | oid/13/12/10/11/ | \n\
+ord | SELECT oid FROM ord ORDER BY cid DESC NULLS LAST |  | 0 Done | oid/12/10/11/13/ | \n\
+m | SELECT x FROM m WHERE x + 1 > x |  | 0 Done | x/9223372036854775807/ | \n\
+--index ord.cid cust ord | SELECT name, amt FROM cust c, ord o WHERE c.id = o.cid |  | 0 Done | name,amt/Ada,5/Ada\
+    ,7/Bob,5/ | \n\
+--lookup ord.cid cust ord | SELECT name, amt FROM cust c, ord o WHERE c.id = o.cid |  | 0 Done | name,amt/Ada,5/Ad\
+    a,7/Bob,5/ | \n\
+--policy pressure --seed 7 --route v0 cust ord | SELECT name, amt FROM cust c, ord o WHERE c.id = o.cid |  | 0 Don\
+    e | name,amt/Ada,5/Ada,7/Bob,5/ | \n\
+n | SELECT x FROM n; SELECT x FROM n; |  | 0 Done | x/1/2/3//x/1/2/3/ | \n\
+n one e | SELECT x FROM e; SELECT x FROM one; SELECT x FROM n WHERE x = 2 |  | 0 Done | x//x/1//x/2/ | \n\
+n | SELECT x FROM n WHERE ((((((((((((((((((((((((((((((((((((((((((((((((((((((((((((((((x = 1)))))))))))))))))))\
+    ))))))))))))))))))))))))))))))))))))))))))))) |  | 0 Done | x/1/ | \n\
+v | SELECT v FROM v |  | 0 Done | v/\"a,\"\"b\"\"\"/ | \n\
+cust | SELECT name FROM cust WHERE id = 3 |  | 0 Done | name/\"\"/ | \n\
+one | SELECT a.x FROM one a, one b, one c, one d, one e, one f, one g, one h, one i, one j, one k, one l |  | 0 Do\
+    ne | x/1/ | \n\
+p r | SELECT sku, cost, rate FROM p, r WHERE cost = rate |  | 0 Done | sku,cost,rate/1,1.50,1.500/2,10.00,10.000/ \
+    | \n\
+p | SELECT sku, cost FROM p WHERE cost >= sku |  | 0 Done | sku,cost/1,1.50/2,10.00/ | \n\
+p | SELECT sku FROM p WHERE 4 * cost = -1 |  | 0 Done | sku/3/ | \n\
+p | SELECT cost FROM p ORDER BY cost |  | 0 Done | cost/-0.25/1.50/10.00/\"\"/ | \n\
 ";
 
-// Faults of the output: the put that fails and the bytes of it that are taken, or the room; and the load that fails.
-const FAULTS: &str = "\
-. | . | . | . | put 1 0 | 6 Write | \n\
-. | . | . | . | put 1 1 | 6 Write | c\n\
-. | . | . | . | put 1 3 | 6 Write | c,k\n\
-. | . | . | . | put 1 6 | 6 Write | c,k,d/\n\
-. | . | . | . | put 2 0 | 6 Write | c,k,d/\n\
-. | . | . | . | put 2 1 | 6 Write | c,k,d/1\n\
-. | . | . | . | put 2 3 | 6 Write | c,k,d/1,1\n\
-. | . | . | . | put 2 7 | 6 Write | c,k,d/1,10,1/\n\
-. | . | . | . | put 3 0 | 6 Write | c,k,d/1,10,1/\n\
-. | . | . | . | put 3 1 | 6 Write | c,k,d/1,10,1/2\n\
-. | . | . | . | put 3 3 | 6 Write | c,k,d/1,10,1/2,2\n\
-. | . | . | . | put 3 7 | 6 Write | c,k,d/1,10,1/2,20,2/\n\
-. | . | . | . | put 4 0 | 6 Write | c,k,d/1,10,1/2,20,2/\n\
-. | . | . | . | put 4 1 | 6 Write | c,k,d/1,10,1/2,20,2/2\n\
-. | . | . | . | put 4 3 | 6 Write | c,k,d/1,10,1/2,20,2/2,2\n\
-. | . | . | . | put 4 7 | 6 Write | .\n\
-. | . | . | . | put 5 0 | . | .\n\
-. | . | . | . | room 0 | 6 Write | \n\
-. | . | . | . | room 9 | 6 Write | c,k,d/1,1\n\
-. | . | . | . | room 26 | 6 Write | c,k,d/1,10,1/2,20,2/2,20,2\n\
-. | . | . | . | room 27 | . | .\n\
-. | . | . | . | load 1 | 5 Read { file: Script } | \n\
-. | . | . | . | load 2 | 5 Read { file: Table(0) } | \n\
-. | . | . | . | load 3 | 5 Read { file: Table(1) } | \n\
-. | . | . | . | load 4 | . | .\n\
+// Refusals, each with its note.
+const REFUSED: &str = "\
+! |  |  | 2 Usage |  | usage: eddyql [OPTIONS] SCRIPT NAME=FILE.. or eddyql [OPTIONS] --demo ROWS/\n\
+! --workers 0 q n=n | SELECT x FROM n |  | 2 Usage |  | usage: eddyql [OPTIONS] SCRIPT NAME=FILE.. or eddyql [OPTI\
+    ONS] --demo ROWS/\n\
+! --workers 2 q n=n | SELECT x FROM n |  | 2 Usage |  | usage: eddyql [OPTIONS] SCRIPT NAME=FILE.. or eddyql [OPTI\
+    ONS] --demo ROWS/\n\
+! --tally q n=n | SELECT x FROM n |  | 2 Usage |  | usage: eddyql [OPTIONS] SCRIPT NAME=FILE.. or eddyql [OPTIONS\
+    ] --demo ROWS/\n\
+! --demo 1000 |  |  | 2 Usage |  | usage: eddyql [OPTIONS] SCRIPT NAME=FILE.. or eddyql [OPTIONS] --demo ROWS/\n\
+! q n=n N=n | SELECT x FROM n |  | 2 Usage |  | usage: eddyql [OPTIONS] SCRIPT NAME=FILE.. or eddyql [OPTIONS] --d\
+    emo ROWS/\n\
+! --index z.x q n=n | SELECT x FROM n |  | 2 Usage |  | usage: eddyql [OPTIONS] SCRIPT NAME=FILE.. or eddyql [OPTI\
+    ONS] --demo ROWS/\n\
+! --seed 18446744073709551616 q n=n | SELECT x FROM n |  | 2 Usage |  | usage: eddyql [OPTIONS] SCRIPT NAME=FILE.\
+    . or eddyql [OPTIONS] --demo ROWS/\n\
+t | SELECT FROM t |  | 3 Script { fault: Syntax { at: 7 } } |  | script: syntax at byte 7/\n\
+n | SELECT x FROM n WHERE NOT x = 1 = 1 |  | 3 Script { fault: Syntax { at: 32 } } |  | script: syntax at byte 32/\n\
+n |  |  | 3 Script { fault: Syntax { at: 0 } } |  | script: syntax at byte 0/\n\
+n | SELECT x FROM n ~ |  | 3 Script { fault: NotUtf8 { at: 16 } } |  | script: not UTF-8 at byte 16/\n\
+n | SELECT x FROM n WHERE x < 9223372036854775808 |  | 3 Script { fault: NumberTooLarge { at: 26 } } |  | script: \
+    number too large at byte 26/\n\
+n | SELECT x FROM n WHERE (((((((((((((((((((((((((((((((((((((((((((((((((((((((((((((((((x = 1 |  | 7 Limit { of\
+    : Parse { fault: TooDeep { at: 86 } } } |  | limit: depth at byte 86/\n\
+n | SELECT x FROM n; SELECT y FROM n |  | 3 Bind { statement: 2, fault: UnknownColumn { at: 24 } } |  | statement \
+    2: unknown column at byte 24/\n\
+n | SELECT x FROM nn |  | 3 Bind { statement: 1, fault: UnknownTable { at: 14 } } |  | statement 1: unknown table \
+    at byte 14/\n\
+n | SELECT x FROM n a, n A |  | 3 Bind { statement: 1, fault: RepeatedAlias { at: 21 } } |  | statement 1: repeate\
+    d alias at byte 21/\n\
+n | SELECT b.x FROM n a |  | 3 Bind { statement: 1, fault: UnknownAlias { at: 7 } } |  | statement 1: unknown alia\
+    s at byte 7/\n\
+cust | SELECT id FROM cust a, cust b |  | 3 Bind { statement: 1, fault: AmbiguousColumn { at: 7 } } |  | statemen\
+    t 1: ambiguous column at byte 7/\n\
+cust | SELECT name FROM cust WHERE name = 1 |  | 3 Bind { statement: 1, fault: TypeMismatch { at: 28 } } |  | stat\
+    ement 1: type mismatch at byte 28/\n\
+n | SELECT a.x, b.x FROM n a, n b WHERE divide(a.x, b.x) |  | 3 Bind { statement: 1, fault: UnknownFunction { at: \
+    36 } } |  | statement 1: unknown function at byte 36/\n\
+n | SELECT x FROM n WHERE x+x+x+x+x+x+x+x+x>0 |  | 7 Limit { of: Bind { statement: 1, fault: TooManyTerms { at: 3\
+    8 } } } |  | limit: terms at byte 38/\n\
+one | SELECT a.x FROM one a, one b, one c, one d, one e, one f, one g, one h, one i, one j, one k, one l, one m \
+    |  | 7 Limit { of: Bind { statement: 1, fault: TooManyAliases { at: 100 } } } |  | limit: aliases at byte 100/\n\
+--lookup ord.cid ord | SELECT * FROM ord |  | 3 Bind { statement: 1, fault: Unreachable { alias: 0 } } |  | statem\
+    ent 1: alias 1 is unreachable/\n\
+--lookup ord.cid ord | SELECT oid FROM ord WHERE cid = 1 |  | 3 Bind { statement: 1, fault: Unreachable { alias: \
+    0 } } |  | statement 1: alias 1 is unreachable/\n\
+--lookup ord.cid ord | SELECT o.oid FROM ord o, ord p WHERE o.cid = p.cid |  | 3 Bind { statement: 1, fault: Unrea\
+    chable { alias: 0 } } |  | statement 1: alias 1 is unreachable/\n\
+n short | SELECT x FROM n |  | 4 BadTable { table: 1, fault: Unequal { rec: 1 } } |  | table short: record 1 is un\
+    equal/\n\
+nothing | SELECT x FROM n |  | 4 BadTable { table: 0, fault: NoHeading } |  | table nothing: no heading/\n\
+letters | SELECT x FROM n |  | 4 BadTable { table: 0, fault: BadInteger { rec: 2, field: 1 } } |  | table letters\
+    : record 2 field 1 is not an integer/\n\
+bytes | SELECT x FROM n |  | 4 BadTable { table: 0, fault: NotUtf8 { rec: 2, field: 1 } } |  | table bytes: recor\
+    d 2 field 1 is not UTF-8/\n\
+cents | SELECT x FROM n |  | 4 BadTable { table: 0, fault: BadDecimal { rec: 1, field: 1 } } |  | table cents: rec\
+    ord 1 field 1 is not a decimal/\n\
+twice | SELECT x FROM n |  | 4 BadTable { table: 0, fault: RepeatedColumn { field: 2 } } |  | table twice: field \
+    2 repeats a column/\n\
+--index n.y n | SELECT x FROM n |  | 4 NoColumn { access: 1 } |  | access 1: no such column/\n\
+--index n.X --lookup t.z n t | SELECT x FROM n |  | 4 NoColumn { access: 2 } |  | access 2: no such column/\n\
+! absent n=n | SELECT x FROM n |  | 5 NotFound { file: Script } |  | not found: script/\n\
+cust Ord=absent | SELECT name, amt FROM cust c, ord o WHERE c.id = o.cid |  | 5 NotFound { file: Table(1) } |  | n\
+    ot found: table Ord/\n\
+cust ord | SELECT name, amt FROM cust c, ord o WHERE c.id = o.cid | load 1 | 5 Read { file: Script } |  | read fau\
+    lt: script/\n\
+cust ord | SELECT name, amt FROM cust c, ord o WHERE c.id = o.cid | load 3 | 5 Read { file: Table(1) } |  | read f\
+    ault: table ord/\n\
+cust ord | SELECT name, amt FROM cust c, ord o WHERE c.id = o.cid | put 1 0 | 6 Write |  | write fault/\n\
+cust ord | SELECT name, amt FROM cust c, ord o WHERE c.id = o.cid | put 2 3 | 6 Write | name,amt/Ada | write fault\
+    /\n\
+n | SELECT x FROM n; SELECT x FROM n | put 5 0 | 6 Write | x/1/2/3/ | write fault/\n\
+n | SELECT x FROM n; SELECT x FROM n | room 9 | 6 Write | x/1/2/3// | write fault/\n\
+n | SELECT x FROM n; SELECT x FROM n | room 10 | 6 Write | x/1/2/3//x | write fault/\n\
+n | SELECT x FROM n; SELECT x FROM n | note 4 | 0 Done | x/1/2/3//x/1/2/3/ | \n\
+t | SELECT FROM t | note 4 | 3 Script { fault: Syntax { at: 7 } } |  | scri\n\
 ";
 
-// A text with a line feed for each slash.
-fn lines_of(alloc: Global, text: &str) -> Result<Vec<u8>, Fail> {
+// A text as bytes, with the signs of a case undone.
+fn bytes_of(alloc: Global, text: &str) -> Result<Vec<u8>, Fail> {
     let mut bytes = Vec::new(alloc);
     for byte in text.as_bytes() {
-        bytes.push(if *byte == b'/' { b'\n' } else { *byte })?;
+        bytes.push(match byte {
+            b'/' => b'\n',
+            b'^' => b'\r',
+            b'~' => 0xFF,
+            other => *other,
+        })?;
     }
     Ok(bytes)
 }
 
-fn words_of(alloc: Global, texts: &str) -> Result<Vec<String>, Fail> {
-    let mut words = Vec::new(alloc);
-    for text in texts.split(' ') {
-        if text != "-" {
-            words.push(String::from_str(alloc, text)?)?;
-        }
-    }
-    Ok(words)
+// Puts the word of a case behind the others.
+fn push_word(alloc: Global, words: &mut Vec<String>, text: &str) -> Result<(), Fail> {
+    let is_named = text.contains('=') || text.starts_with('-');
+    let is_text = words
+        .last()
+        .is_some_and(|word| word.as_str().starts_with("--"));
+    words.push(if is_named || is_text {
+        String::from_str(alloc, text)?
+    } else {
+        format!(in alloc; "{text}={text}")?
+    })?;
+    Ok(())
 }
 
-fn keep(alloc: Global, folder: &mut MemoryFolder, name: &str, text: &str) -> Result<(), Fail> {
-    let bytes = lines_of(alloc, text)?;
-    folder.keep(name, bytes.as_slice())?;
-    Ok(())
+fn words_of(alloc: Global, texts: &str) -> Result<Vec<String>, Fail> {
+    let mut words = Vec::new(alloc);
+    if let Some(given) = texts.strip_prefix('!') {
+        for text in given.split_ascii_whitespace() {
+            words.push(String::from_str(alloc, text)?)?;
+        }
+        return Ok(words);
+    }
+    words.push(String::from_str(alloc, "q")?)?;
+    for text in texts.split(' ') {
+        push_word(alloc, &mut words, text)?;
+    }
+    Ok(words)
 }
 
 // The fields of a case.
@@ -167,30 +201,21 @@ fn keep(alloc: Global, folder: &mut MemoryFolder, name: &str, text: &str) -> Res
 struct Case<'a> {
     words: &'a str,
     script: &'a str,
-    first: &'a str,
-    second: &'a str,
     fault: &'a str,
     status: &'a str,
     written: &'a str,
-}
-
-fn or_usual<'a>(field: Option<&'a str>, usual: &'a str) -> &'a str {
-    match field {
-        Some(".") | None => usual,
-        Some(text) => text,
-    }
+    note: &'a str,
 }
 
 fn case_of(line: &str) -> Case<'_> {
     let mut parts = line.split(" | ");
     Case {
-        words: or_usual(parts.next(), WORDS),
-        script: or_usual(parts.next(), QUERY),
-        first: or_usual(parts.next(), T),
-        second: or_usual(parts.next(), U),
-        fault: or_usual(parts.next(), ""),
-        status: or_usual(parts.next(), DONE),
-        written: or_usual(parts.next(), ANSWER),
+        words: parts.next().unwrap_or(""),
+        script: parts.next().unwrap_or(""),
+        fault: parts.next().unwrap_or(""),
+        status: parts.next().unwrap_or(""),
+        written: parts.next().unwrap_or(""),
+        note: parts.next().unwrap_or(""),
     }
 }
 
@@ -203,14 +228,15 @@ fn number(fault: &str, word: &str, place: usize) -> Option<usize> {
     parts.nth(place)?.parse().ok()
 }
 
-// The script as the file `q`, and the tables as the files `1` and `2`.
-fn folder_of(alloc: Global, case: Case<'_>) -> Result<MemoryFolder, Fail> {
+// The script as the file `q`, and all files.
+fn folder_of(alloc: Global, script: &[u8]) -> Result<MemoryFolder, Fail> {
     let mut folder = MemoryFolder::new(alloc);
-    keep(alloc, &mut folder, "q", case.script)?;
-    keep(alloc, &mut folder, "1", case.first)?;
-    keep(alloc, &mut folder, "2", case.second)?;
-    if let Some(load) = number(case.fault, "load", 0) {
-        folder.fail_at(load as u64)?;
+    folder.keep("q", script)?;
+    for line in FILES.lines() {
+        let mut parts = line.split(" | ");
+        let name = parts.next().unwrap_or("");
+        let bytes = bytes_of(alloc, parts.next().unwrap_or(""))?;
+        folder.keep(name, bytes.as_slice())?;
     }
     Ok(folder)
 }
@@ -224,119 +250,136 @@ fn sink_of(alloc: Global, fault: &str) -> Result<MemorySink, Fail> {
     Ok(out)
 }
 
-// How a run of these words over this folder ends.
-fn ended<F: Folder, O: Sink>(
-    alloc: Global,
-    texts: &str,
-    folder: &mut F,
-    out: &mut O,
-) -> Result<Status, Fail> {
-    let words = words_of(alloc, texts)?;
-    let mut notes = MemorySink::with_room(alloc, 0)?;
-    Ok(run(alloc, &words, folder, out, &mut notes))
-}
-
-// Whether a run ended with this status, and wrote this.
-fn is_told(alloc: Global, status: Status, written: &[u8], case: Case<'_>) -> Result<bool, Fail> {
-    let told = format!(in alloc; "{} {status:?}", status.code())?;
-    let want = lines_of(alloc, case.written)?;
-    Ok(told.as_str() == case.status && written == want.as_slice())
-}
-
-fn is_right(alloc: Global, case: Case<'_>) -> Result<bool, Fail> {
-    let mut folder = folder_of(alloc, case)?;
-    let mut out = sink_of(alloc, case.fault)?;
-    let status = ended(alloc, case.words, &mut folder, &mut out)?;
-    is_told(alloc, status, out.written(), case)
-}
-
-// The first of these cases that isn't right, or nothing.
-fn wrong_case(alloc: Global, cases: &'static str) -> Result<&'static str, Fail> {
-    for line in cases.lines() {
-        if !is_right(alloc, case_of(line))? {
-            return Ok(line);
-        }
+// How a run ends, and what is written and noted.
+fn told(alloc: Global, case: Case<'_>) -> Result<bool, Fail> {
+    let words = words_of(alloc, case.words)?;
+    let script = bytes_of(alloc, case.script)?;
+    let mut folder = folder_of(alloc, script.as_slice())?;
+    if let Some(load) = number(case.fault, "load", 0) {
+        folder.fail_at(load as u64)?;
     }
-    Ok("")
+    let mut out = sink_of(alloc, case.fault)?;
+    let mut notes = MemorySink::with_room(alloc, number(case.fault, "note", 0).unwrap_or(999))?;
+    let status = run(
+        alloc,
+        &words,
+        &mut folder,
+        &mut out,
+        &mut notes,
+        &NoPredicates,
+    );
+    let told = format!(in alloc; "{} {status:?}", status.code())?;
+    let written = bytes_of(alloc, case.written)?;
+    let note = bytes_of(alloc, case.note)?;
+    Ok(
+        told.as_str() == case.status
+            && out.written() == written.as_slice()
+            && notes.written() == note.as_slice(),
+    )
 }
 
 #[test]
 fn runs_end_as_they_must(rt: HostRuntime) -> Result<(), Fail> {
-    for cases in [RUNS, TABLES, FAULTS] {
-        assert_eq!(rt; wrong_case(rt.alloc(), cases)?, "");
+    for cases in [DONE, REFUSED] {
+        for line in cases.lines() {
+            if !told(rt.alloc(), case_of(line))? {
+                assert_eq!(rt; line, "");
+            }
+        }
     }
     assert_eq!(rt; Status::Memory.code(), 9);
     Ok(())
 }
 
-// How a run of a script of some bytes, and others so often behind them, ends.
-fn script_ended(alloc: Global, front: &[u8], times: u32, part: &[u8]) -> Result<Status, Fail> {
-    let mut script = Vec::new(alloc);
-    script.extend_from_slice(front)?;
-    for _ in 0..times {
-        script.extend_from_slice(part)?;
-    }
-    let mut folder = folder_of(alloc, case_of(""))?;
-    folder.keep("q", script.as_slice())?;
-    let mut out = MemorySink::with_room(alloc, 0)?;
-    ended(alloc, WORDS, &mut folder, &mut out)
+// How a run of a script over the table `n` ends, and what is written.
+fn ended(alloc: Global, texts: &str, script: &[u8], told: &str) -> Result<bool, Fail> {
+    let words = words_of(alloc, texts)?;
+    let mut folder = folder_of(alloc, script)?;
+    let mut out = MemorySink::with_room(alloc, 99)?;
+    let mut notes = MemorySink::with_room(alloc, 99)?;
+    let status = run(
+        alloc,
+        &words,
+        &mut folder,
+        &mut out,
+        &mut notes,
+        &NoPredicates,
+    );
+    let said = format!(in alloc; "{status:?}")?;
+    Ok(said.as_str() == told && out.written().is_empty() == (status != Status::Done))
 }
 
+// A file of one byte more than the most, and numbers of statements and conjuncts at their limits.
 #[test]
-fn long_and_odd_scripts(rt: HostRuntime) -> Result<(), Fail> {
-    let cases: [(&[u8], u32, &[u8], &str); 4] = [
-        (
-            b"",
-            65,
-            b"SELECT x FROM n;",
-            "Script { fault: TooManyStatements { at: 1024 } }",
-        ),
-        (
-            b"",
-            64,
-            b"SELECT x FROM n;",
-            "Script { fault: Syntax { at: 0 } }",
-        ),
-        (
-            b"SELECT * FROM t, u WHERE t.c = u.d -- \xFF",
-            0,
-            b"",
-            "Script { fault: NotUtf8 { at: 38 } }",
-        ),
-        // Not UTF-8 comes first, wherever it stands.
-        (b"u \xC3", 0, b"", "Script { fault: NotUtf8 { at: 2 } }"),
-    ];
-    for (front, times, part, want) in cases {
-        let status = script_ended(rt.alloc(), front, times, part)?;
-        let told = format!(in rt.alloc(); "{status:?}")?;
-        assert_eq!(rt; told.as_str(), want);
+fn at_limits(rt: HostRuntime) -> Result<(), Fail> {
+    let alloc = rt.alloc();
+    let long = vec![in alloc; b' '; 67_108_865]?;
+    assert!(rt; ended(alloc, "n", &long, "Limit { of: File { file: Script } }")?);
+    let mut text = Vec::new(alloc);
+    for _ in 0..65 {
+        text.extend_from_slice(b"SELECT x FROM n;")?;
     }
+    assert!(rt;
+        ended(
+            alloc,
+            "n",
+            &text,
+            "Limit { of: Parse { fault: TooManyStatements { at: 1024 } } }"
+        )?
+    );
+    let mut text = Vec::new(alloc);
+    text.extend_from_slice(b"SELECT x FROM n WHERE x=1")?;
+    for _ in 0..47 {
+        text.extend_from_slice(b" AND x=1")?;
+    }
+    assert!(rt; ended(alloc, "n", &text, "Done")?);
+    text.extend_from_slice(b" AND x=1")?;
+    let many = "Limit { of: Bind { statement: 1, fault: TooManyConjuncts { at: 406 } } }";
+    assert!(rt; ended(alloc, "n", &text, many)?);
     Ok(())
 }
 
-// Whether a run over a folder and a sink that are sure ends well, with what fits the room.
-fn is_sure(alloc: Global, room: usize, written: &str) -> Result<bool, Fail> {
-    let mut folder = SureFolder::new(alloc);
-    folder.keep("q", QUERY.as_bytes())?;
-    folder.keep("1", lines_of(alloc, T)?.as_slice())?;
-    folder.keep("2", lines_of(alloc, U)?.as_slice())?;
-    let mut out = SureSink::with_room(alloc, room)?;
-    let status = ended(alloc, WORDS, &mut folder, &mut out)?;
-    is_told(
+// A table as people write it, and a script of several lines.
+#[test]
+fn as_people_write_it(rt: HostRuntime) -> Result<(), Fail> {
+    let alloc = rt.alloc();
+    let words = words_of(alloc, "people orders")?;
+    let mut folder = folder_of(alloc, SPENDERS.as_bytes())?;
+    let mut out = SureSink::with_room(alloc, 99)?;
+    let mut notes = SureSink::with_room(alloc, 99)?;
+    let status = run(
         alloc,
-        status,
-        out.written(),
-        Case {
-            written,
-            ..case_of("")
-        },
-    )
+        &words,
+        &mut folder,
+        &mut out,
+        &mut notes,
+        &NoPredicates,
+    );
+    assert_eq!(rt; status, Status::Done);
+    assert!(rt; out.written() == b"who,total\n\"Ng, Ada\",120\n".as_slice());
+    assert!(rt; notes.written().is_empty());
+    Ok(())
 }
 
+// A folder and a sink that are sure: the sink keeps what fits, and refuses nothing.
 #[test]
 fn sure_folder_and_sink(rt: HostRuntime) -> Result<(), Fail> {
-    // A sure sink keeps what fits, and refuses nothing.
-    assert!(rt; is_sure(rt.alloc(), 27, ANSWER)?);
-    assert!(rt; is_sure(rt.alloc(), 8, "c,k,d/1,")?);
+    let alloc = rt.alloc();
+    let words = words_of(alloc, "n")?;
+    let mut folder = SureFolder::new(alloc);
+    folder.keep("q", b"SELECT x FROM n")?;
+    folder.keep("n", b"x\n1\n2\n")?;
+    let mut out = SureSink::with_room(alloc, 3)?;
+    let mut notes = SureSink::with_room(alloc, 99)?;
+    let status = run(
+        alloc,
+        &words,
+        &mut folder,
+        &mut out,
+        &mut notes,
+        &NoPredicates,
+    );
+    assert_eq!(rt; status, Status::Done);
+    assert!(rt; out.written() == b"x\n1".as_slice());
     Ok(())
 }

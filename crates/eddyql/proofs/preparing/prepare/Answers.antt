@@ -1,88 +1,52 @@
-use Rattle.std.proofs.Common.{refl, ◌∙◌, arith}
-use Rattle.std.specs.Prelude.{map}
-use Rattle.std.specs.String.{string_bytes}
-use Rattle.std.proofs.lemmas.Result.{err_from_is_err_and}
-use Rattle.outside.proofs.Laws.{Rose-earlier}
-use Rattle.eddyql.specs.Words.{Command, command_of, table_of_word}
-use Rattle.eddyql.specs.EarlySeen.{join_seen}
-use Rattle.eddyql.specs.Outcome.{Reached, ReachedTable}
-use Rattle.eddyql.proofs.StageLemmas.{MayRefuse-same, unread_only, holds_anyway, holds_same}
-use Rattle.eddyql.proofs.OutcomeLemmas.{reads_weaker}
-use Rattle.eddyql.proofs.PlanLemmas.{query_read-refused, query_found, query_refused, plan_found, plan_refused-query, plan_refused-tables, plan_refused-block, IsRunnable-bound, Reached-table}
+use Rattle.std.proofs.Common.{◌≡◌, List, ℕ, Err, Ok, refl, sym, ap, ◌∙◌, subst}
+use Rattle.std.proofs.lemmas.Result.{IfOk-weaker, IfErr-weaker}
+use Rattle.command_line.specs.declared.command.TableWord.{TableWord}
+use Rattle.eddyql.specs.Files.{catalogue_read}
+use Rattle.eddyql.specs.Outcome.{IsScript, Reached, ReachedTable}
+use Rattle.eddyql.specs.Steps.{ComesTo}
+use Rattle.eddyql.proofs.DoingLemmas.{through, went_on, went_behind, stopped_pure, stopped_weaker, stopped_behind}
+use Rattle.eddyql.proofs.RunLemmas.{plan_unscripted, plan_untabled, plan_over, reached_table, reached_script}
 use Rattle.eddyql.proofs.preparing.prepare.Goals as goal
 
-pub returns-in_err-text-clause-refused : goal.returns-in_err-text-clause-refused
-returns-in_err-text-clause-refused g c =
-    let p = err_from_is_err_and c.from_residual.result c.from_residual.ensures.1 in
-    rw (p.1, p.2)
-    (λ files told read reads.
-    plan_refused-query read _ files _ c.in_err-text.field-0.0 (query_read-refused read _ files _ _ _ c.in_err-text.field-0.0 told (λ r. (r, tt)) c.in_err-text.ensures.refused))
+pub returns-in_err-script-clause-stopped : goal.returns-in_err-script-clause-stopped
+returns-in_err-script-clause-stopped g c =
+    through c.from_residual.result c.in_err-script.field-0.0 _ c.from_residual.ensures.1
+    (stopped_weaker _ _ _ _ _ _ c.in_err-script.field-0.0
+    (λ files e. plan_unscripted _ c.args.query.now files c.in_err-script.field-0.0
+    (subst (λ (n : List ℕ). IsScript files n (Err c.in_err-script.field-0.0)) c.as_str.ensures e))
+    (λ files f k. reached_script c.args.query.now files f k) c.in_err-script.ensures.stopped)
 
-pub returns-in_err-query-clause-refused : goal.returns-in_err-query-clause-refused
-returns-in_err-query-clause-refused g c =
-    let p = err_from_is_err_and c.from_residual-in_err-query.result c.from_residual-in_err-query.ensures.1 in
-    let asked : Command = command_of c.args.script.now (map string_bytes c.args.tables.now) in
-    rw (p.1, p.2)
-    (λ files told read reads.
-    query_refused read asked files (g.F.Folder.holds c.args.folder.now) c.in_ok-text.text.items c.as_slice.result.now _ c.in_err-query.field-0.0
-    told c.in_ok-text.ensures.gives c.as_slice.ensures.value reads c.in_err-query.ensures.refused)
+pub returns-in_err-catalogue-clause-stopped : goal.returns-in_err-catalogue-clause-stopped
+returns-in_err-catalogue-clause-stopped g c =
+    through c.from_residual-in_err-catalogue.result c.in_err-catalogue.field-0.0 _ c.from_residual-in_err-catalogue.ensures.1
+    (stopped_behind _ _ _ _ _ _ _ _ c.in_err-catalogue.field-0.0 c.in_ok-script.ensures.went
+    (λ files h e. plan_untabled _ c.args.query.now files c.in_ok-script.script c.in_err-catalogue.field-0.0
+    (subst (λ (n : List ℕ). IsScript files n (Ok c.in_ok-script.script)) c.as_str.ensures h)
+    (subst (λ (ts : List TableWord). ComesTo (catalogue_read files ts) (Err c.in_err-catalogue.field-0.0)) c.as_slice.ensures e))
+    (λ files f h k. reached_table c.args.query.now files c.in_ok-script.script f
+    (subst (λ (n : List ℕ). IsScript files n (Ok c.in_ok-script.script)) c.as_str.ensures h)
+    (subst (λ (ts : List TableWord). ReachedTable files ts f) c.as_slice.ensures k))
+    c.in_err-catalogue.ensures.stopped)
 
-pub returns-in_err-query-clause-read : goal.returns-in_err-query-clause-read
-returns-in_err-query-clause-read g c =
-    let p = err_from_is_err_and c.from_residual-in_err-query.result c.from_residual-in_err-query.ensures.1 in
-    rw (p.1, p.2) (λ f is. absurd (unread_only c.in_err-query.field-0.0 f c.in_err-query.ensures.unread is))
+pub returns-clause-went : goal.returns-clause-went
+returns-clause-went g c =
+    IfOk-weaker c.plan_over.result _ _
+    (λ plan e. went_behind _ _ _ _ _ _ c.in_ok-script.ensures.went c.in_ok-catalogue.ensures.went
+    (λ files h k. plan_over _ c.args.query.now files c.in_ok-script.script c.in_ok-catalogue.catalogue (Ok plan)
+    (subst (λ (n : List ℕ). IsScript files n (Ok c.in_ok-script.script)) c.as_str.ensures h)
+    (subst (λ (ts : List TableWord). ComesTo (catalogue_read files ts) (Ok c.in_ok-catalogue.catalogue)) c.as_slice.ensures k) e))
+    c.plan_over.ensures.ok
 
-pub returns-in_err-relations-clause-refused : goal.returns-in_err-relations-clause-refused
-returns-in_err-relations-clause-refused g c =
-    let p = err_from_is_err_and c.from_residual-in_err-relations.result c.from_residual-in_err-relations.ensures.1 in
-    let asked : Command = command_of c.args.script.now (map string_bytes c.args.tables.now) in
-    let rises = Rose-earlier (g.F.Folder.faults c.args.folder.now) (g.F.Folder.faults c.load.new.folder) (g.F.Folder.faults c.load_tables.new.folder) c.in_ok-text.ensures.counts in
-    rw (p.1, p.2)
-    (λ files told read reads.
-    let found = query_found read asked files (g.F.Folder.holds c.args.folder.now) c.in_ok-text.text.items c.as_slice.result.now (join_seen c.in_ok-query.query)
-    told c.in_ok-text.ensures.gives c.as_slice.ensures.value reads c.in_ok-query.ensures.ok in
-    plan_refused-tables read asked files (join_seen c.in_ok-query.query) _ c.in_err-relations.field-0.0 found
-    (MayRefuse-same _ _ _ _ c.in_err-relations.field-0.0 refl
-    (reads_weaker _ _ (ReachedTable files asked.tables) (Reached read asked files) rises (λ f. Reached-table read asked files (join_seen c.in_ok-query.query) f found))
-    (c.in_err-relations.ensures.refused files (c.in_ok-text.ensures.keeps ∙ told))))
-
-pub returns-in_err-block-clause-refused : goal.returns-in_err-block-clause-refused
-returns-in_err-block-clause-refused g c =
-    let p = err_from_is_err_and c.from_residual-in_err-block.result c.from_residual-in_err-block.ensures.1 in
-    let asked : Command = command_of c.args.script.now (map string_bytes c.args.tables.now) in
-    rw (p.1, p.2)
-    (λ files told read reads. plan_refused-block read asked files (join_seen c.in_ok-query.query) c.in_ok-relations.relations _ c.in_err-block.field-0.0
-    (query_found read asked files (g.F.Folder.holds c.args.folder.now) c.in_ok-text.text.items c.as_slice.result.now (join_seen c.in_ok-query.query)
-    told c.in_ok-text.ensures.gives c.as_slice.ensures.value reads c.in_ok-query.ensures.ok)
-    (c.in_ok-relations.ensures.told files (c.in_ok-text.ensures.keeps ∙ told)) c.in_err-block.ensures.refused)
-
-pub returns-clause-told : goal.returns-clause-told
-returns-clause-told g c = λ files told read reads.
-    let asked : Command = command_of c.args.script.now (map string_bytes c.args.tables.now) in
-    plan_found read asked files (join_seen c.in_ok-query.query) c.in_ok-relations.relations c.in_ok-block.block
-    (query_found read asked files (g.F.Folder.holds c.args.folder.now) c.in_ok-text.text.items c.as_slice.result.now (join_seen c.in_ok-query.query)
-    told c.in_ok-text.ensures.gives c.as_slice.ensures.value reads c.in_ok-query.ensures.ok)
-    (c.in_ok-relations.ensures.told files (c.in_ok-text.ensures.keeps ∙ told)) c.in_ok-block.ensures.ok
-
-pub returns-clause-runnable : goal.returns-clause-runnable
-returns-clause-runnable g c =
-    let left = c.in_ok-query.ensures.left in
-    let right = c.in_ok-query.ensures.right in
-    let count = c.in_ok-relations.ensures.count in
-    IsRunnable-bound (join_seen c.in_ok-query.query) c.in_ok-relations.relations c.in_ok-block.block c.in_ok-block.ensures.ok c.in_ok-relations.ensures.integers
-    (omega (arith, left, count)) (omega (arith, right, count))
-
-pub returns-in_err-query-clause-refused_kept : goal.returns-in_err-query-clause-refused_kept
-returns-in_err-query-clause-refused_kept g c =
-    let p = err_from_is_err_and c.from_residual-in_err-query.result c.from_residual-in_err-query.ensures.1 in
-    rw (p.1, p.2) (holds_anyway c.in_err-query.field-0.0 _ c.in_ok-text.ensures.kept)
-
-pub returns-in_err-relations-clause-refused_kept : goal.returns-in_err-relations-clause-refused_kept
-returns-in_err-relations-clause-refused_kept g c =
-    let p = err_from_is_err_and c.from_residual-in_err-relations.result c.from_residual-in_err-relations.ensures.1 in
-    rw (p.1, p.2) (holds_same c.in_err-relations.field-0.0 _ _ (λ e. e ∙ c.in_ok-text.ensures.kept) c.in_err-relations.ensures.refused_kept)
-
-pub returns-in_err-block-clause-refused_kept : goal.returns-in_err-block-clause-refused_kept
-returns-in_err-block-clause-refused_kept g c =
-    let p = err_from_is_err_and c.from_residual-in_err-block.result c.from_residual-in_err-block.ensures.1 in
-    rw (p.1, p.2) (holds_anyway c.in_err-block.field-0.0 _ (c.in_ok-relations.ensures.kept ∙ c.in_ok-text.ensures.kept))
+pub returns-clause-stopped : goal.returns-clause-stopped
+returns-clause-stopped g c =
+    IfErr-weaker c.plan_over.result _ _
+    (λ s r. stopped_pure _ _
+    (λ files. IsScript files c.args.query.now.script (Ok c.in_ok-script.script) × ComesTo (catalogue_read files c.args.query.now.tables) (Ok c.in_ok-catalogue.catalogue))
+    _ _ _ s
+    (went_behind _ _ _ _ _ _ c.in_ok-script.ensures.went c.in_ok-catalogue.ensures.went
+    (λ files h k. (
+      subst (λ (n : List ℕ). IsScript files n (Ok c.in_ok-script.script)) c.as_str.ensures h,
+      subst (λ (ts : List TableWord). ComesTo (catalogue_read files ts) (Ok c.in_ok-catalogue.catalogue)) c.as_slice.ensures k,
+    )))
+    (λ files h due. plan_over _ c.args.query.now files c.in_ok-script.script c.in_ok-catalogue.catalogue (Err s) h.0 h.1 due) r)
+    c.plan_over.ensures.refused

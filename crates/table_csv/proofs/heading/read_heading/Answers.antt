@@ -2,7 +2,7 @@ use Rattle.std.proofs.Common.{◌≡◌, ◌≢◌, ◌+◌, List, [], ◌∷◌
 use Rattle.csv.specs.Records.{fields_of}
 use Rattle.table_csv.specs.declared.fault.TableFault.TheVariants as fault
 use Rattle.table_csv.specs.declared.heading.Named.{Named}
-use Rattle.table_csv.specs.Fields.{first_of}
+use Rattle.table_csv.specs.Fields.{earlier_of}
 use Rattle.table_csv.specs.Heading.{heading_fault, name_fault}
 use Rattle.table_csv.specs.Marks.{column_name}
 use Rattle.table_csv.specs.Work.{head_of, heads_from, names_of}
@@ -19,7 +19,7 @@ returns-in_err-head-clause-fault c =
     exit_with c.from_residual-in_err-head.result c.in_err-head.field-0.0 (λ f. f ≢ fault.Memory → heading_fault [] 1 fs ≡ Some f)
     c.from_residual-in_err-head.ensures.1
     (λ ne. sym c.loop-i.invariant.fault ∙ heading-fault-more names (i + 1) fs i f c.field_of-field.ensures
-    ∙ ap (λ o. first_of o (heading_fault (names ++ column_name (i + 1) f ∷ []) (i + 1 + 1) (drop (i + 1) fs)))
+    ∙ ap (λ o. earlier_of o (heading_fault (names ++ column_name (i + 1) f ∷ []) (i + 1 + 1) (drop (i + 1) fs)))
     (ap (λ (heads : List Named). name_fault (names_of heads) (i + 1) f) (sym c.as_slice.ensures.value) ∙ c.in_err-head.ensures.fault ne))
 
 pub loop-i-preserved : goal.loop-i-preserved
@@ -35,7 +35,7 @@ loop-i-preserved c =
       made = ap (λ (v : List Named). v ++ rest) pushed ∙ append_assoc old (head_of (i + 1) f ∷ []) rest
           ∙ ap (λ (xs : List Named). old ++ xs) (sym (heads-more (i + 1) fs i f c.field_of-field.ensures)) ∙ c.loop-i.invariant.made;
       fault = ap (λ ns. heading_fault ns (i + 1 + 1) (drop (i + 1) fs)) (ap names_of pushed ∙ names-push old (i + 1) f)
-          ∙ sym (ap (λ o. first_of o (heading_fault (names ++ column_name (i + 1) f ∷ []) (i + 1 + 1) (drop (i + 1) fs)))
+          ∙ sym (ap (λ o. earlier_of o (heading_fault (names ++ column_name (i + 1) f ∷ []) (i + 1 + 1) (drop (i + 1) fs)))
           (ap (λ (heads : List Named). name_fault (names_of heads) (i + 1) f) (sym c.as_slice.ensures.value) ∙ c.in_ok-head.ensures.taken))
           ∙ sym (heading-fault-more names (i + 1) fs i f c.field_of-field.ensures) ∙ c.loop-i.invariant.fault;
     }

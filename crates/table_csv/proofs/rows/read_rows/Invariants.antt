@@ -1,17 +1,18 @@
-use Rattle.std.proofs.Common.{◌≡◌, ◌+◌, ◌≤◌, ◌++◌, length, map}
+use Rattle.std.proofs.Common.{◌≡◌, ◌+◌, ◌≤◌, ◌++◌, [], length, map}
 use Rattle.table_csv.specs.Fields.{records_fault, values_of}
 use Rattle.table_csv.specs.Reading.{IsPlain, records_left}
 use Rattle.table_csv.proofs.rows.read_rows.Given as goal
 
-abbrev pub invariant-loop-row : goal.invariant-loop-row
-invariant-loop-row l = record {
+abbrev pub invariant-loop-values : goal.invariant-loop-values
+invariant-loop-values l = record {
   plain : IsPlain l.reader;
   columns : l.table.columns ≡ l.fn.table.columns;
   count : length l.table.rows + 1 ≡ l.rec;
+  none : l.values.items ≡ [];
   few : l.rec ≤ 4000001;
   made : l.table.rows ++ map (values_of l.fn.table.columns) (records_left l.reader) ≡ map (values_of l.fn.table.columns) (records_left l.fn.reader);
   fault : records_fault l.rec l.fn.table.columns (records_left l.reader) ≡ records_fault 1 l.fn.table.columns (records_left l.fn.reader);
 }
 
-abbrev pub decreases-loop-row : goal.decreases-loop-row
-decreases-loop-row l = length (records_left l.reader)
+abbrev pub decreases-loop-values : goal.decreases-loop-values
+decreases-loop-values l = length (records_left l.reader)

@@ -1,0 +1,12 @@
+#!/bin/sh
+# Measures the indexes beside the maps of Rust's standard library, in one run, and prints nanoseconds of processor time. A
+# kind of keys is 0: random, 1: rising, 2: all equal.
+set -e
+here=$(cd "$(dirname "$0")" && pwd)
+sh "$here/run-one.sh" indexes 'sq_value: arrayvec
+stem_index: sq_value
+indexes_bench: sq_value stem_index anyhow' sq_value stem_index
+made=$(mktemp -d)
+trap 'rm -rf "$made"' EXIT
+${RUSTC:-rustc} -O -o "$made/indexes" "$here/indexes.rs"
+"$made/indexes"

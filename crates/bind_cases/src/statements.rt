@@ -1,0 +1,180 @@
+//! Statements and what binding says of them. A case is a line: what is wanted, a bar, and what is asked.
+
+ghost use Rattle.std.specs.Prelude.{◌<◌, length, All};
+ghost use Rattle.sq_bind.specs.Given.{IsParsed, AreAccesses};
+
+use crate::sample::{Sample, accesses_of, are_accesses, catalogue};
+use crate::shown::shown;
+use catalogue::Catalogue;
+use sq_bind::{BindFault, bind};
+use sq_expr::{Access, Block};
+use sq_parse::{Statement, parse};
+use std::alloc::Global;
+use std::test::Fail;
+
+mod blocks;
+mod faults;
+
+/// Cases that have the accesses and the front of their texts in common.
+#[derive(Clone, Copy)]
+pub struct Group {
+    pub accesses: &'static str,
+    pub front: &'static str,
+    pub cases: &'static str,
+}
+
+/// What is asked of a statement that has a block.
+#[derive(Clone, Copy)]
+enum Asked {
+    /// `block` and the number of conjuncts.
+    Length,
+    /// The block, whole.
+    Block,
+}
+
+fn fault_text(alloc: Global, fault: BindFault) -> Result<String, Fail> {
+    let (name, at) = match fault {
+        BindFault::UnknownTable { at } => ("UnknownTable", at),
+        BindFault::RepeatedAlias { at } => ("RepeatedAlias", at),
+        BindFault::UnknownAlias { at } => ("UnknownAlias", at),
+        BindFault::UnknownColumn { at } => ("UnknownColumn", at),
+        BindFault::AmbiguousColumn { at } => ("AmbiguousColumn", at),
+        BindFault::TypeMismatch { at } => ("TypeMismatch", at),
+        BindFault::UnknownFunction { at } => ("UnknownFunction", at),
+        BindFault::WrongArguments { at } => ("WrongArguments", at),
+        BindFault::TooManyAliases { at } => ("TooManyAliases", at),
+        BindFault::TooManyConjuncts { at } => ("TooManyConjuncts", at),
+        BindFault::TooManyTerms { at } => ("TooManyTerms", at),
+        BindFault::Unreachable { alias } => ("Unreachable", u32::from(alias)),
+        BindFault::Memory => ("Memory", 0),
+    };
+    Ok(format!(in alloc; "{name} {at}")?)
+}
+
+fn block_text(alloc: Global, asked: Asked, block: &Block) -> Result<String, Fail> {
+    match asked {
+        Asked::Length => Ok(format!(in alloc; "block {}", block.conjuncts.len())?),
+        Asked::Block => shown(alloc, block),
+    }
+}
+
+fn statement_text(
+    alloc: Global,
+    asked: Asked,
+    catalogue: &Catalogue,
+    accesses: &[Access],
+    statement: &Statement,
+) -> Result<String, Fail>
+    requires parsed { IsParsed statement.now }
+    requires reached { AreAccesses catalogue.now.tables accesses.now }
+{
+    match bind(alloc, statement, catalogue, accesses, &Sample) {
+        Ok(block) => block_text(alloc, asked, &block),
+        Err(fault) => fault_text(alloc, fault),
+    }
+}
+
+fn statements_text(
+    alloc: Global,
+    asked: Asked,
+    catalogue: &Catalogue,
+    accesses: &[Access],
+    statements: &[Statement],
+) -> Result<String, Fail>
+    requires parsed { All IsParsed statements.now }
+    requires reached { AreAccesses catalogue.now.tables accesses.now }
+{
+    let mut text = String::new(alloc);
+    for statement in statements {
+        if !text.is_empty() {
+            text.push_str("; ")?;
+        }
+        let answer = statement_text(alloc, asked, catalogue, accesses, statement)?;
+        text.push_str(answer.as_str())?;
+    }
+    Ok(text)
+}
+
+fn script_text(
+    alloc: Global,
+    asked: Asked,
+    catalogue: &Catalogue,
+    accesses: &[Access],
+    text: &[u8],
+) -> Result<String, Fail>
+    requires short { length text.now < 4294967295 }
+    requires reached { AreAccesses catalogue.now.tables accesses.now }
+{
+    match parse(alloc, text) {
+        Ok(script) => {
+            let statements = script.statements.as_slice();
+            statements_text(alloc, asked, catalogue, accesses, statements)
+        }
+        Err(fault) => Ok(format!(in alloc; "{fault:?}")?),
+    }
+}
+
+// A front, and where more is written, a piece so often and an end.
+fn text_of(alloc: Global, front: &str, case: &str) -> Result<String, Fail> {
+    let mut parts = case.split('|');
+    let mut text = String::from_str(alloc, front)?;
+    text.push_str(parts.next().unwrap_or(""))?;
+    let piece = parts.next().unwrap_or("");
+    let times: u8 = parts.next().unwrap_or("").parse().unwrap_or(0);
+    for _ in 0..times {
+        text.push_str(piece)?;
+    }
+    text.push_str(parts.next().unwrap_or(""))?;
+    Ok(text)
+}
+
+// The first of these cases that isn't right, with what is said of it, or nothing.
+fn wrong_case(
+    alloc: Global,
+    asked: Asked,
+    catalogue: &Catalogue,
+    accesses: &[Access],
+    group: &Group,
+) -> Result<String, Fail>
+    requires reached { AreAccesses catalogue.now.tables accesses.now }
+{
+    for line in group.cases.lines() {
+        let (want, case) = line.split_once(" | ").unwrap_or(("no bar", ""));
+        let text = text_of(alloc, group.front, case)?;
+        if text.len() > 99999 {
+            return Ok(String::from_str(alloc, "too long")?);
+        }
+        let told = script_text(alloc, asked, catalogue, accesses, text.as_bytes())?;
+        if told.as_str() != want {
+            return Ok(format!(in alloc; "{line}: {told}")?);
+        }
+    }
+    Ok(String::new(alloc))
+}
+
+fn wrong_of(
+    alloc: Global,
+    asked: Asked,
+    catalogue: &Catalogue,
+    group: &Group,
+) -> Result<String, Fail> {
+    let accesses = accesses_of(alloc, group.accesses)?;
+    if !are_accesses(catalogue.tables(), accesses.as_slice()) {
+        return Ok(String::from_str(alloc, "no accesses")?);
+    }
+    wrong_case(alloc, asked, catalogue, accesses.as_slice(), group)
+}
+
+#[test]
+fn statements_are_bound(rt: HostRuntime) -> Result<(), Fail> {
+    let catalogue = catalogue(rt.alloc())?;
+    for group in faults::groups() {
+        let wrong = wrong_of(rt.alloc(), Asked::Length, &catalogue, &group)?;
+        assert_eq!(rt; wrong.as_str(), "");
+    }
+    for group in blocks::groups() {
+        let wrong = wrong_of(rt.alloc(), Asked::Block, &catalogue, &group)?;
+        assert_eq!(rt; wrong.as_str(), "");
+    }
+    Ok(())
+}

@@ -1,0 +1,6 @@
+pub mod TakenLaws
+pub mod AnswerLaws
+pub mod NumberLaws
+pub mod TableLaws
+pub mod AccessLaws
+pub mod WithinLaws

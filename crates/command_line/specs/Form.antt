@@ -1,0 +1,62 @@
+-- The form of the command line, and what words in form ask for.
+use Rattle.std.specs.Prelude.{ℕ, Bool, ◌&&◌, List, [], ◌∷◌, Option, Some, None, is_none, unwrap_or, option_map, codes, if◌then◌else◌}
+use Rattle.clap.specs.Walk.{Row, Text, first_of, all_of, is_empty}
+use Rattle.clap.specs.Simple.{matches_of}
+use Rattle.clap.specs.Takes.{takes}
+use Rattle.command_line.specs.Steps.{◌>>=◌}
+use Rattle.command_line.specs.Program.{program}
+use Rattle.command_line.specs.Tables.{tables_of}
+use Rattle.command_line.specs.Accesses.{accesses_of}
+use Rattle.command_line.specs.Settings.{number_between, workers_of, seed_of, policy_of, route_of, is_flag_given}
+use Rattle.command_line.specs.declared.command.Command.{Command}
+use Rattle.command_line.specs.declared.command.PolicyName.{PolicyName}
+use Rattle.command_line.specs.declared.command.Query.{Query as QueryWords}
+use Rattle.command_line.specs.declared.command.Task.{Task}
+use Rattle.command_line.specs.declared.command.Task.TheVariants.{Query, Demo}
+
+-- a script's file, the tables of the words behind it, and the accesses of the two options
+abbrev pub query_of : List Text → Option Text → Option Text → Option QueryWords
+query_of [] index lookup = None
+query_of (script ∷ words) index lookup = do
+  tables ← tables_of words
+  accesses ← accesses_of tables index lookup
+  Some (record { script = script; tables = tables; accesses = accesses })
+
+-- the demo's rows, 1 to 100,000, where there is no script, no table and no access
+abbrev pub demo_of : Text → List Text → Option Text → Option Text → Option ℕ
+demo_of rows words index lookup =
+    if is_empty words && is_none index && is_none lookup then number_between 1 100000 rows else None
+
+-- a command of these parts
+abbrev pub command_of : ℕ → PolicyName → ℕ → Text → Bool → Task → Command
+command_of workers policy seed route tally task =
+    record { workers = workers; policy = policy; seed = seed; route = route; tally = tally; task = task }
+
+-- what is to be run, by the text of `--demo`, the words that are no option's, and the texts of the two options
+abbrev pub task_of : Option Text → List Text → Option Text → Option Text → Option Task
+task_of None words index lookup = option_map Query (query_of words index lookup)
+task_of (Some rows) words index lookup = option_map Demo (demo_of rows words index lookup)
+
+-- the words that are no option's, among what clap finds
+abbrev pub other_words_of : List Row → List Text
+other_words_of rows = unwrap_or (all_of (codes "words") rows) []
+
+-- what is to be run, by what clap finds
+abbrev pub task_in : List Row → Option Task
+task_in rows =
+    task_of (first_of (codes "demo") rows) (other_words_of rows) (first_of (codes "index") rows)
+    (first_of (codes "lookup") rows)
+
+-- what the texts ask for that clap finds in some words
+abbrev pub asked_by : List Row → Option Command
+asked_by rows = do
+  workers ← workers_of (first_of (codes "workers") rows)
+  policy ← policy_of (first_of (codes "policy") rows)
+  seed ← seed_of (first_of (codes "seed") rows)
+  route ← route_of (first_of (codes "route") rows)
+  task ← task_in rows
+  Some (command_of workers policy seed route (is_flag_given (first_of (codes "tally") rows)) task)
+
+-- the command of some words, where clap takes them and what it finds in them is in form
+unfoldable pub command : List Text → Option Command
+command words = if takes program words then asked_by (matches_of program words) else None

@@ -1,0 +1,41 @@
+-- What holds of every command, whatever its words: what a run may rely on.
+use Rattle.std.specs.Prelude.{◌≡◌, ◌≤◌, ◌<◌, ℕ, true, List, length, All}
+use Rattle.std.specs.Result.{is_ok}
+use Rattle.route_policy.specs.ScriptReading.{script_of}
+use Rattle.command_line.specs.Tables.{is_named_file, names_differ}
+use Rattle.command_line.specs.Accesses.{tables_differ}
+use Rattle.command_line.specs.declared.command.AccessWord.{AccessWord}
+use Rattle.command_line.specs.declared.command.Command.{Command}
+use Rattle.command_line.specs.declared.command.Query.{Query as QueryWords}
+use Rattle.command_line.specs.declared.command.Task.{Task}
+use Rattle.command_line.specs.declared.command.Task.TheVariants.{Query, Demo}
+
+-- an access is one of these tables, and its column has a name
+pub record IsAccess (tables : ℕ) (a : AccessWord) : Type 0 where
+  pub table : a.table < tables
+  pub column : 1 ≤ length a.column
+
+-- there are 1 to 16 tables whose names differ, and accesses of some of them, at most one of each
+pub record IsQuery (q : QueryWords) : Type 0 where
+  pub some : 1 ≤ length q.tables
+  pub few : length q.tables ≤ 16
+  pub named : All (λ t. is_named_file t ≡ true) q.tables
+  pub names : names_differ q.tables ≡ true
+  pub accesses : All (IsAccess (length q.tables)) q.accesses
+  pub tables : tables_differ q.accesses ≡ true
+
+-- there are 1 to 100,000 rows
+pub record IsDemo (rows : ℕ) : Type 0 where
+  pub some : 1 ≤ rows
+  pub few : rows ≤ 100000
+
+abbrev pub IsTask : Task → Type 0
+IsTask (Query q) = IsQuery q
+IsTask (Demo rows) = IsDemo rows
+
+-- there are 1 to 16 workers, and the route text is a route script
+pub record IsWithin (c : Command) : Type 0 where
+  pub some : 1 ≤ c.workers
+  pub few : c.workers ≤ 16
+  pub route : is_ok (script_of c.route) ≡ true
+  pub task : IsTask c.task

@@ -1,0 +1,60 @@
+//! What the words of the command line ask for.
+
+use sq_value::SqText;
+use sqlite_items::Items;
+
+/// A table of the command line, `NAME=FILE`: its name, and the name of its file.
+#[derive(Debug, Drop)]
+pub struct TableWord {
+    pub name: SqText,
+    pub file: SqText,
+}
+
+/// An access that is asked for, `T.C`: the number of its table among those of the command line,
+/// from 0, its column's name as it was given, and whether the table is scanned beside. The
+/// accesses of `--index` keep the scan, and those of `--lookup` don't.
+#[derive(Debug, Drop)]
+pub struct AccessWord {
+    pub table: u32,
+    pub column: SqText,
+    pub scan: bool,
+}
+
+/// The name of a policy.
+#[derive(Clone, Copy, Debug, PartialEq, Eq)]
+pub enum PolicyName {
+    /// The ticket lottery.
+    Lottery,
+    /// Back pressure.
+    Pressure,
+    /// The route script of `--route`.
+    Script,
+}
+
+/// A script to run over tables: the name of its file, the tables in the order of their words, and
+/// the accesses, those of `--index` first.
+#[derive(Debug, Drop)]
+pub struct Query {
+    pub script: SqText,
+    pub tables: Items<TableWord>,
+    pub accesses: Items<AccessWord>,
+}
+
+/// What is to be run: a script over tables, or the demo with so many rows a table.
+#[derive(Debug, Drop)]
+pub enum Task {
+    Query(Query),
+    Demo { rows: u32 },
+}
+
+/// What the words ask for: the number of workers, the policy, the seed of the lottery, the text of
+/// the route script, whether a line of counts is wanted for each query, and what is to be run.
+#[derive(Debug, Drop)]
+pub struct Command {
+    pub workers: u32,
+    pub policy: PolicyName,
+    pub seed: u64,
+    pub route: SqText,
+    pub tally: bool,
+    pub task: Task,
+}

@@ -1,0 +1,17 @@
+use Rattle.std.proofs.Common.{codes, refl}
+use Rattle.demo_tables.specs.Demo.{stock_row}
+use Rattle.demo_tables.proofs.PairLaws.{pairs_fit, pairs_room, pairs_more, number_fits, held_fits}
+use Rattle.demo_tables.proofs.tables.stock.Goals as goal
+
+pub push_pair-requires-clause-fits : goal.push_pair-requires-clause-fits
+push_pair-requires-clause-fits c =
+    pairs_fit (codes "part") (codes "held") (stock_row c.args.count c.args.shift) c.loop-row.row c.loop-row.table _ _ c.loop-row.invariant (number_fits _ _ c.number-part.ensures) (held_fits _ _ c.held.ensures)
+
+pub push_pair-requires-clause-room : goal.push_pair-requires-clause-room
+push_pair-requires-clause-room c =
+    pairs_room (codes "part") (codes "held") (stock_row c.args.count c.args.shift) c.loop-row.row c.args.count c.loop-row.table c.loop-row.invariant c.loop-row.auto.row-end c.requires.few
+
+pub loop-row-preserved : goal.loop-row-preserved
+loop-row-preserved c =
+    pairs_more (codes "part") (codes "held") (stock_row c.args.count c.args.shift) c.loop-row.row c.loop-row.table c.push_pair.new.table _ _ _ _ c.loop-row.invariant c.number-part.ensures c.held.ensures refl
+    c.in_ok-push_pair.ensures

@@ -1,0 +1,11 @@
+pub mod WorkerLemmas
+pub mod PoolLemmas
+pub mod AnswerLemmas
+pub mod CloseLemmas
+pub mod ClosingLemmas
+pub mod AccountLemmas
+pub mod ClosingTold
+pub mod FetchLemmas
+pub mod SharingLemmas
+pub mod ClaimLemmas
+pub mod RegroupLemmas

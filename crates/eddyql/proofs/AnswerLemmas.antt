@@ -1,0 +1,209 @@
+-- Answers: the matches that are found, put in order, are the answer; and texts that are written one behind another.
+use Rattle.std.proofs.Common.{◌≡◌, ℕ, ◌+◌, ◌<◌, ◌≤◌, List, [], ◌∷◌, ◌++◌, length, take, drop, get_or, map, Option, Some, None, Result, Ok, Err, refl, sym, ◌∙◌, ap, subst, arith, append-nil, append_assoc}
+use Rattle.std.specs.Prelude.{All, AllPairs, IfOk, OnOk, OnErr}
+use Rattle.std.specs.Result.{IsErrAnd}
+use Rattle.std.specs.List.{flat_map}
+use Rattle.std.specs.List.Sorted.{IsPermutation}
+use Rattle.std.specs.declared.cmp.Ordering.{Ordering}
+use Rattle.std.specs.declared.cmp.Ordering.TheVariants.{Less, Equal}
+use Rattle.std.specs.Ordering.{nat_cmp, ordering_then}
+use Rattle.std.specs.Cmp.Lexicographic.{slice_cmp}
+use Rattle.std.proofs.lemmas.Bool.Decides.{nat_tests}
+use Rattle.std.proofs.Math.Seq.{take-append_seam}
+use Rattle.std.proofs.lemmas.List.{length-map, get_or-map, take_more}
+use Rattle.std.proofs.lemmas.List.Concat.{flat_map-append, flat_map-cons}
+use Rattle.std.proofs.lemmas.List.Elements.{All-head, All-tail}
+use Rattle.std.proofs.lemmas.List.Sorted.{IsPermutation-map}
+use Rattle.std.proofs.lemmas.Result.{err_from_is_err_and}
+use Rattle.sq_value.specs.Relation.{Relation}
+use Rattle.sq_value.specs.declared.value.Value.{Value}
+use Rattle.sq_value.specs.declared.value.Truth.{Truth}
+use Rattle.sq_value.specs.declared.predicate.Kinds.{Kinds}
+use Rattle.sq_value.proofs.OrderLemmas.{sorted_by_total}
+use Rattle.sq_expr.specs.Fits.{IsFit}
+use Rattle.sq_expr.specs.declared.block.Block.{Block}
+use Rattle.bag_meaning.specs.Bag.{bag}
+use Rattle.bag_meaning.specs.Answer.{answer, answer_order, Rises}
+use Rattle.bag_meaning.specs.Combination.{padded, stamped}
+use Rattle.bag_meaning.specs.declared.combo.Combo.{Combo}
+use Rattle.bag_meaning.proofs.AnswerLemmas.{IsBefore, AllPairs-bag, IsAnswer-only}
+use Rattle.bag_meaning.proofs.KeyLemmas.{answer_order_total}
+use Rattle.bag_meaning.proofs.ProductRange.{IsCombination, bag-in_range}
+use Rattle.outside.specs.Told.{Adds, AddsFront}
+use Rattle.outside.specs.Faults.{NeverFalls, RoseOrFull}
+use Rattle.outside.proofs.Laws.{RoseOrFull-earlier, RoseOrFull-later, Adds-nothing, Adds-twice, AddsFront-whole, AddsFront-nothing, AddsFront-after, AddsFront-longer}
+use Rattle.result_sink.proofs.TextLemmas.{flat_map-split}
+use Rattle.result_sink.specs.Ready.{IsShown, IsOrdered, Differs, rows_of_combo}
+use Rattle.result_sink.specs.declared.fault.WriteFault.{WriteFault}
+use Rattle.result_sink.specs.declared.fault.WriteFault.TheVariants as write
+use Rattle.eddyql.specs.Doing.{Wrote}
+use Rattle.eddyql.specs.Outcome.{block_text, behind_line, text_of}
+use Rattle.eddyql.specs.Seen.{Sink}
+
+-- ---- the answer
+
+-- the rows of a match as it is found
+rows_of_stamped : (block : Block) (rows : List ℕ) → length rows ≡ length block.aliases → rows_of_combo block (stamped 0 rows) ≡ rows
+rows_of_stamped block rows e = ap (λ (n : ℕ). take n (padded rows)) (sym e) ∙ take-append_seam rows _
+
+map_same_on : (f : List ℕ → List ℕ) (xs : List (List ℕ)) → All (λ x. f x ≡ x) xs → map f xs ≡ xs
+map_same_on f [] h = refl
+map_same_on f (x ∷ xs) h =
+    ap (λ y. y ∷ map f xs) (All-head (λ z. f z ≡ z) x xs h) ∙ ap (λ ys. x ∷ ys) (map_same_on f xs (All-tail (λ z. f z ≡ z) x xs h))
+
+map_twice : (f : Combo → List ℕ) (g : List ℕ → Combo) (xs : List (List ℕ)) → map f (map g xs) ≡ map (λ x. f (g x)) xs
+map_twice f g [] = refl
+map_twice f g (x ∷ xs) = ap (λ ys. f (g x) ∷ ys) (map_twice f g xs)
+
+matches_same : (gives : ℕ → Value → Value → Truth) (block : Block) (tables : List Relation)
+    → All (λ rows. rows_of_combo block (stamped 0 rows) ≡ rows) (bag gives block tables)
+matches_same gives block tables k d h = rows_of_stamped block (get_or (bag gives block tables) k d) (bag-in_range gives block tables k d h).count
+
+rows_found : (gives : ℕ → Value → Value → Truth) (block : Block) (tables : List Relation) (combos : List Combo)
+    → combos ≡ map (stamped 0) (bag gives block tables) → map (rows_of_combo block) combos ≡ bag gives block tables
+rows_found gives block tables combos e =
+    ap (map (rows_of_combo block)) e ∙ map_twice (rows_of_combo block) (stamped 0) (bag gives block tables)
+    ∙ map_same_on (λ x. rows_of_combo block (stamped 0 x)) (bag gives block tables) (matches_same gives block tables)
+
+-- no two matches have equal rows
+equal_rows : (xs : List ℕ) → slice_cmp nat_cmp xs xs ≡ Equal
+equal_rows [] = refl
+equal_rows (x ∷ xs) =
+    let same : nat_cmp x x ≡ Equal = grind (arith, nat_tests) in
+    ap (λ (o : Ordering). ordering_then o (slice_cmp nat_cmp xs xs)) same ∙ equal_rows xs
+
+apart : (x y : List ℕ) → IsBefore x y → x ≡ y → ⊥
+apart x y h e = never (sym (subst (λ (z : List ℕ). slice_cmp nat_cmp x z ≡ Less) (sym e) h) ∙ equal_rows x)
+  where
+    never : Less ≡ Equal → ⊥
+    never f = cc
+
+pub apart_found : (gives : ℕ → Value → Value → Truth) (block : Block) (tables : List Relation) (combos : List Combo)
+    → combos ≡ map (stamped 0) (bag gives block tables) → AllPairs (Differs block) combos
+apart_found gives block tables combos e = subst (AllPairs (Differs block)) (sym e) all
+  where
+    found : List (List ℕ)
+    found = bag gives block tables
+
+    all : AllPairs (Differs block) (map (stamped 0) found)
+    all i j d low within same =
+        let long : length (map (stamped 0) found) ≡ length found = length-map found (stamped 0) in
+        let in_j : j < length found = omega (arith, long, within) in
+        let in_i : i < length found = omega (arith, long, within, low) in
+        let at_i : get_or (map (stamped 0) found) i d ≡ stamped 0 (get_or found i []) = get_or-map (stamped 0) found i [] d in_i in
+        let at_j : get_or (map (stamped 0) found) j d ≡ stamped 0 (get_or found j []) = get_or-map (stamped 0) found j [] d in_j in
+        apart (get_or found i []) (get_or found j []) (AllPairs-bag gives block tables i j [] low in_j)
+        (sym (matches_same gives block tables i [] in_i) ∙ sym (ap (rows_of_combo block) at_i) ∙ same ∙ ap (rows_of_combo block) at_j
+        ∙ matches_same gives block tables j [] in_j)
+
+-- what was found, put in order, is the answer
+pub answer_found : (gives : ℕ → Value → Value → Truth) (block : Block) (tables : List Relation) (combos sorted : List Combo)
+    → combos ≡ map (stamped 0) (bag gives block tables) → IsPermutation combos sorted → Rises (answer_order block tables) (map (rows_of_combo block) sorted)
+    → map (rows_of_combo block) sorted ≡ answer gives block tables
+answer_found gives block tables combos sorted e moved rises =
+    IsAnswer-only gives block tables (answer_order_total sorted_by_total block tables) (map (rows_of_combo block) sorted)
+    (record {
+      permutation = subst (λ (xs : List (List ℕ)). IsPermutation xs (map (rows_of_combo block) sorted)) (rows_found gives block tables combos e)
+          (IsPermutation-map (rows_of_combo block) combos sorted moved);
+      rises = rises;
+    })
+
+pub answer_sorted : {T E : Type 0} (items : T → List Combo) (r : Result T E) (gives : ℕ → Value → Value → Truth) (block : Block) (tables : List Relation)
+    (combos : List Combo) → combos ≡ map (stamped 0) (bag gives block tables) → IfOk r (λ x. IsPermutation combos (items x))
+    → IfOk r (λ x. Rises (answer_order block tables) (map (rows_of_combo block) (items x)))
+    → IfOk r (λ x. map (rows_of_combo block) (items x) ≡ answer gives block tables)
+answer_sorted items (Ok x) gives block tables combos e moved rises = answer_found gives block tables combos (items x) e moved rises
+answer_sorted items (Err e) gives block tables combos f moved rises = tt
+
+-- a block that fits can be put in order and written
+pub shown_fit : (kinds : ℕ → Option Kinds) (tables : List Relation) (block : Block) → IsFit kinds tables block → IsShown block tables
+shown_fit kinds tables block fit = record { few = fit.few_aliases; output = fit.output }
+
+pub ordered_fit : (kinds : ℕ → Option Kinds) (tables : List Relation) (block : Block) → IsFit kinds tables block → IsOrdered block tables
+ordered_fit kinds tables block fit = record { few = fit.few_aliases; order = fit.order }
+
+-- ---- the text
+
+-- nothing was written
+pub wrote_nothing : (s : Sink) → Wrote s s [] {A = Unit {0}} (Ok tt)
+wrote_nothing s = record { counts = omega arith; ok = Adds-nothing s.written; failed = λ e. absurd cc; front = tt }
+
+-- want of memory, before anything was written
+pub wrote_no_memory : (s : Sink) (text : List ℕ) → Wrote s s text {A = Unit {0}} (Err write.Memory)
+wrote_no_memory s text = record { counts = omega arith; ok = tt; failed = λ e. absurd cc; front = AddsFront-nothing s.written text }
+
+-- a text is written behind another
+pub wrote_behind : (old mid new : Sink) (first second : List ℕ) (r : Result (Unit {0}) WriteFault) → Wrote old mid first {A = Unit {0}} (Ok tt)
+    → Wrote mid new second r → Wrote old new (first ++ second) r
+wrote_behind old mid new first second (Ok x) w v = record {
+  counts = omega (arith, w.counts, v.counts);
+  ok = Adds-twice old.written mid.written new.written first second w.ok v.ok;
+  failed = λ e. absurd cc;
+  front = tt;
+}
+wrote_behind old mid new first second (Err e) w v = record {
+  counts = omega (arith, w.counts, v.counts);
+  ok = tt;
+  failed = λ f. RoseOrFull-earlier old.faults mid.faults new.faults w.counts (v.failed f);
+  front = AddsFront-after old.written mid.written new.written first second w.ok v.front;
+}
+
+-- a text of which a front was written is a front of a longer one
+pub wrote_front : (old new : Sink) (first second : List ℕ) (e : WriteFault) → Wrote old new first {A = Unit {0}} (Err e)
+    → Wrote old new (first ++ second) {A = Unit {0}} (Err e)
+wrote_front old new first second e w = record {
+  counts = w.counts;
+  ok = tt;
+  failed = w.failed;
+  front = AddsFront-longer old.written new.written first second w.front;
+}
+
+-- the error that a `?` hands on
+pub wrote_through : (old new : Sink) (text : List ℕ) (r : Result (Unit {0}) WriteFault) (y : WriteFault) → IsErrAnd r (λ x. x ≡ y)
+    → Wrote old new text {A = Unit {0}} (Err y) → Wrote old new text r
+wrote_through old new text r y h w =
+    let q = err_from_is_err_and r h in
+    subst (λ (x : Result (Unit {0}) WriteFault). Wrote old new text x) (sym (q.1 ∙ ap Err q.2)) w
+
+-- the same of an equal answer, and of an equal text
+pub wrote_is : (old new : Sink) (text : List ℕ) (r q : Result (Unit {0}) WriteFault) → r ≡ q → Wrote old new text r → Wrote old new text q
+wrote_is old new text r q e w = subst (λ (x : Result (Unit {0}) WriteFault). Wrote old new text x) e w
+
+pub wrote_text : (old new : Sink) (text other : List ℕ) (r : Result (Unit {0}) WriteFault) → text ≡ other → Wrote old new text r → Wrote old new other r
+wrote_text old new text other r e w = subst (λ (x : List ℕ). Wrote old new x r) e w
+
+-- answers, one after another
+flat_map-take : {X : Type 0} (f : X → List ℕ) (xs : List X) (i : ℕ) (d : X) → i < length xs
+    → flat_map f (take (i + 1) xs) ≡ flat_map f (take i xs) ++ f (get_or xs i d)
+flat_map-take {X = X} f xs i d h =
+    let x : X = get_or xs i d in
+    let one : flat_map f (x ∷ []) ≡ f x = flat_map-cons f x [] ∙ append-nil (f x) in
+    ap (flat_map f) (take_more xs i d h) ∙ flat_map-append f (take i xs) (x ∷ [])
+    ∙ ap (λ (z : List ℕ). flat_map f (take i xs) ++ z) one
+
+pub wrote_next : {X : Type 0} (f : X → List ℕ) (xs : List X) (i : ℕ) (x : X) (old mid new : Sink) (r : Result (Unit {0}) WriteFault) → i < length xs
+    → x ≡ get_or xs i x → Wrote old mid (flat_map f (take i xs)) {A = Unit {0}} (Ok tt) → Wrote mid new (f x) r → r ≡ Ok tt
+    → Wrote old new (flat_map f (take (i + 1) xs)) {A = Unit {0}} (Ok tt)
+wrote_next f xs i x old mid new r h is w v e =
+    subst (λ (text : List ℕ). Wrote old new text {A = Unit {0}} (Ok tt))
+    (ap (λ (y : _). flat_map f (take i xs) ++ f y) is ∙ sym (flat_map-take f xs i x h))
+    (wrote_behind old mid new (flat_map f (take i xs)) (f x) (Ok tt) w (subst (λ (q : Result (Unit {0}) WriteFault). Wrote mid new (f x) q) e v))
+
+pub wrote_stopped : {X : Type 0} (f : X → List ℕ) (xs : List X) (i : ℕ) (x : X) (old mid new : Sink) (r : Result (Unit {0}) WriteFault) (y : WriteFault) → i < length xs
+    → x ≡ get_or xs i x → Wrote old mid (flat_map f (take i xs)) {A = Unit {0}} (Ok tt) → Wrote mid new (f x) r → r ≡ Err y
+    → Wrote old new (flat_map f xs) {A = Unit {0}} (Err y)
+wrote_stopped f xs i x old mid new r y h is w v e =
+    subst (λ (text : List ℕ). Wrote old new text {A = Unit {0}} (Err y))
+    (ap (λ (z : _). (flat_map f (take i xs) ++ f z) ++ flat_map f (drop (i + 1) xs)) is ∙ sym (flat_map-split f xs i x h))
+    (wrote_front old new (flat_map f (take i xs) ++ f x) (flat_map f (drop (i + 1) xs)) y
+    (wrote_behind old mid new (flat_map f (take i xs)) (f x) (Err y) w (subst (λ (q : Result (Unit {0}) WriteFault). Wrote mid new (f x) q) e v)))
+
+pub text_of-none : (gives : ℕ → Value → Value → Truth) (tables : List Relation) (blocks : List Block) → length blocks ≡ 0 → text_of gives tables blocks ≡ []
+unfolding text_of
+text_of-none gives tables [] e = refl
+text_of-none gives tables (b ∷ bs) e = absurd (omega (arith, e))
+
+pub text_of-more : (gives : ℕ → Value → Value → Truth) (tables : List Relation) (blocks : List Block) (b : Block) (bs : List Block) → blocks ≡ b ∷ bs
+    → text_of gives tables blocks ≡ block_text gives tables b ++ flat_map (behind_line gives tables) bs
+unfolding text_of
+text_of-more gives tables blocks b bs e = ap (text_of gives tables) e

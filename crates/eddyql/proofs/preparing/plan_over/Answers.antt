@@ -1,0 +1,8 @@
+use Rattle.std.proofs.Common.{◌≡◌, List, ℕ, Err, Ok, length, refl, sym, ap, ◌∙◌, subst, arith}
+use Rattle.command_line.specs.declared.command.AccessWord.{AccessWord}
+use Rattle.eddyql.proofs.AccessLemmas.{few_accesses}
+use Rattle.eddyql.proofs.preparing.plan_over.Goals as goal
+
+pub read_accesses-requires-clause-few : goal.read_accesses-requires-clause-few
+read_accesses-requires-clause-few g c =
+    omega (arith, few_accesses c.args.query.now c.requires.asked, ap (length {A = AccessWord}) c.as_slice.ensures)

@@ -1,0 +1,94 @@
+-- Serves proofs: what a step over a folder or into a sink has done.
+use Rattle.std.specs.Prelude.{◌≡◌, ◌≢◌, ◌⊎◌, ℕ, List, Option, Some, None, IsSome, Result, Ok, Err, OnOk, OnErr}
+use Rattle.outside.specs.Files.{File}
+use Rattle.outside.specs.Faults.{NeverFalls, RoseOrFull}
+use Rattle.outside.specs.Told.{Adds, AddsFront}
+use Rattle.result_sink.specs.declared.fault.WriteFault.{WriteFault}
+use Rattle.result_sink.specs.declared.fault.WriteFault.TheVariants as write
+use Rattle.sq_parse.specs.Spelling.{Spelled}
+use Rattle.sq_parse.specs.declared.tree.Script.{Script}
+use Rattle.eddyql.specs.Outcome.{IsOutcome, Predicates, ReachedBy}
+use Rattle.eddyql.specs.Refusal.{MayRefuse, IsEarly, UnlessReadOrMemory}
+use Rattle.eddyql.specs.Run.{MayEnd, IsBeforeOutput, IsLate}
+use Rattle.eddyql.specs.Asked.{asked, names_asked}
+use Rattle.eddyql.specs.Note.{IsNoted, line_of}
+use Rattle.eddyql.specs.Faults.{IsPlaced}
+use Rattle.eddyql.specs.Seen.{Folder, Sink}
+use Rattle.eddyql.specs.declared.status.FileOf.{FileOf}
+use Rattle.eddyql.specs.declared.status.Status.{Status}
+use Rattle.eddyql.specs.declared.status.Status.TheVariants as status
+
+-- no file is reached
+abbrev pub never : FileOf → Type 0
+never file = ⊥
+
+-- a script that some text spells
+abbrev pub IsParsedScript : Script → Type 0
+IsParsedScript script = (text : List ℕ) × Spelled text script
+
+-- a step went well: the folder is as it was, and where it tells its files, this holds of them
+pub record Went (old new : Folder) (told : List File → Type 0) : Type 0 where
+  pub keeps : new.holds ≡ old.holds
+  pub kept : new.faults ≡ old.faults
+  pub tells : (files : List File) → old.holds ≡ Some files → told files
+
+-- a step that touches no folder refused
+pub record Refuses (expected : Type 0) (s : Status) : Type 0 where
+  pub may : MayRefuse never expected s
+  pub early : IsEarly ⊥ s
+
+-- a step refused: where the folder tells its files, so it was expected, or a file that was reached wasn't read
+pub record Stopped (old new : Folder) (expected : List File → Type 0) (reached : List File → FileOf → Type 0)
+    (s : Status) : Type 0 where
+  pub keeps : new.holds ≡ old.holds
+  pub counts : NeverFalls old.faults new.faults
+  pub kept : UnlessReadOrMemory s (new.faults ≡ old.faults)
+  pub refused : (files : List File) → old.holds ≡ Some files → MayRefuse (reached files) (expected files) s
+  pub read : (f : FileOf) → s ≡ status.Read f → RoseOrFull old.faults new.faults
+  pub early : IsEarly (IsSome old.holds) s
+
+-- a text was written, or a front of it
+pub record Wrote (old new : Sink) (text : List ℕ) {A : Type 0} (r : Result A WriteFault) : Type 0 where
+  pub counts : NeverFalls old.faults new.faults
+  pub ok : OnOk r (Adds old.written new.written text)
+  pub failed : r ≡ Err write.Failed → RoseOrFull old.faults new.faults
+  pub front : OnErr r (AddsFront old.written new.written text)
+
+-- a run ended with this status
+pub record Ended (p : Predicates) (words : List (List ℕ)) (old new : Folder) (before now : Sink) (s : Status)
+    : Type 0 where
+  pub keeps : new.holds ≡ old.holds
+  pub folder_counts : NeverFalls old.faults new.faults
+  pub out_counts : NeverFalls before.faults now.faults
+  pub ends : (files : List File) → old.holds ≡ Some files
+      → MayEnd (λ file. RoseOrFull old.faults new.faults × ReachedBy words files file)
+      (RoseOrFull before.faults now.faults)
+      (IsOutcome p words files) s
+  pub done : s ≡ status.Done → (files : List File) → old.holds ≡ Some files
+      → (text : List ℕ) × IsOutcome p words files (Ok text) × Adds before.written now.written text
+  pub front : (files : List File) → old.holds ≡ Some files
+      → (now.written ≡ before.written)
+      ⊎ ((text : List ℕ) × IsOutcome p words files (Ok text) × AddsFront before.written now.written text)
+  pub kept : UnlessReadOrMemory s (new.faults ≡ old.faults)
+  pub read : (f : FileOf) → s ≡ status.Read f → RoseOrFull old.faults new.faults
+  pub write : s ≡ status.Write → RoseOrFull before.faults now.faults
+  pub not_found : (f : FileOf) → s ≡ status.NotFound f → IsSome old.holds
+  pub nothing : IsBeforeOutput s → now.written ≡ before.written
+  pub placed : IsPlaced s
+  pub usage_only : s ≡ status.Usage → asked words ≡ None
+
+-- answers were written, or a front of their text
+pub record Answered (old new : Sink) (text : List ℕ) (s : Status) : Type 0 where
+  pub counts : NeverFalls old.faults new.faults
+  pub done : s ≡ status.Done → Adds old.written new.written text
+  pub front : AddsFront old.written new.written text
+  pub write : s ≡ status.Write → RoseOrFull old.faults new.faults
+  pub late : IsLate s
+
+-- a run ended with this status, and said so on the notes
+pub record Finished (p : Predicates) (words : List (List ℕ)) (old new : Folder)
+    (before now noted_before noted_now : Sink) (s : Status) : Type 0 where
+  pub ended : Ended p words old new before now s
+  pub usage : asked words ≡ None → (s ≡ status.Usage) ⊎ (s ≡ status.Memory)
+  pub silent : s ≡ status.Done → noted_now ≡ noted_before
+  pub noted : s ≢ status.Done → IsNoted noted_before noted_now (line_of (names_asked words) s)

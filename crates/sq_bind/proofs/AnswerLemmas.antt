@@ -1,0 +1,349 @@
+-- What the answers of the rounds say together, and that a statement has one answer.
+use Rattle.std.proofs.Common.{◌≡◌, ◌⊎◌, inl, inr, ℕ, zero, suc, ◌<◌, ◌≤◌, Bool, true, false, List, [], ◌∷◌, length, map, Option, Some, None, Result, Ok, Err, refl, ap, sym, subst, ◌∙◌, arith, if◌then◌else◌, nat_lt}
+use Rattle.std.specs.Prelude.{◌&&◌, ◌==◌, All, Contains, MatchResult, IfOk, IfErr, IsErrAnd, IsSome, IfSome, IsSomeAnd}
+use Rattle.std.specs.List.{AllByRecursion as Each}
+use Rattle.std.proofs.lemmas.Bool.{cases_order, or_parts, or_cases, and_parts, ltb-true, ltb-false, eqb-true, eqb-false}
+use Rattle.std.proofs.lemmas.List.Elements.{All-nil, All-cons, All-head, All-tail, recursion_from_All}
+use Rattle.sq_parse.specs.declared.tree.Source.{Source}
+use Rattle.sq_parse.specs.declared.tree.Statement.{Statement}
+use Rattle.sq_expr.specs.Reach.{IsReachable}
+use Rattle.sq_expr.specs.declared.block.Block.{Block}
+use Rattle.sq_bind.specs.Fault.{IsFirst, IsNotLater, is_before, place_of, fault_number, sooner, first_of}
+use Rattle.sq_expr.specs.Fits.{IsFit}
+use Rattle.sq_expr.specs.declared.block.AliasUse.{AliasUse}
+use Rattle.sq_bind.specs.Visible.{Alias}
+use Rattle.sq_bind.specs.Statement.{Scope, from_faults, rest_faults, block_of, aliases_in, output_of, placed_in, conjunct_of, key_of, use_of}
+use Rattle.sq_bind.specs.Found.{IsFound, used_at, block_with}
+use Rattle.sq_bind.specs.Given.{AreAccesses}
+use Rattle.sq_bind.specs.Reached.{first_unreached}
+use Rattle.sq_bind.specs.Sound.{IsSound}
+use Rattle.sq_bind.specs.Answer.{IsReached, IsFirstUnreached, IsBindFault, IsBound}
+use Rattle.sq_bind.specs.Told.{IsAnswer}
+use Rattle.sq_bind.specs.declared.fault.BindFault.{BindFault}
+use Rattle.sq_bind.specs.declared.fault.BindFault.TheVariants as fault
+use Rattle.sq_bind.proofs.BlockFits.{first_round, block_fits}
+use Rattle.sq_bind.proofs.ReachLemmas.{unreached, all_reached}
+use Rattle.std.proofs.lemmas.List.{length-map}
+
+-- ---- the first of some faults
+
+pub none_first : (faults : List BindFault) → first_of faults ≡ None → faults ≡ []
+none_first [] e = refl
+none_first (f ∷ faults) e = by (first_of faults) e
+  where
+    by : (o : Option BindFault) → sooner (Some f) o ≡ None → f ∷ faults ≡ []
+    by None e = absurd cc
+    by (Some g) e = pick (is_before g f) e
+      where
+        pick : (b : Bool) → (if b then Some g else Some f) ≡ None → f ∷ faults ≡ []
+        pick true e = absurd cc
+        pick false e = absurd cc
+
+before_no_later : (g f : BindFault) → is_before g f ≡ true → IsNotLater g f
+before_no_later g f h = by (or_cases (nat_lt (place_of g) (place_of f)) ((place_of g == place_of f) && nat_lt (fault_number g) (fault_number f)) h)
+  where
+    by : (nat_lt (place_of g) (place_of f) ≡ true) ⊎ (((place_of g == place_of f) && nat_lt (fault_number g) (fault_number f)) ≡ true) → IsNotLater g f
+    by (inl e) = inl (ltb-true (place_of g) (place_of f) e)
+    by (inr e) =
+        let both = and_parts (place_of g == place_of f) (nat_lt (fault_number g) (fault_number f)) e in
+        let less = ltb-true (fault_number g) (fault_number f) both.1 in
+        inr (eqb-true (place_of g) (place_of f) both.0, omega (arith, less))
+
+not_before_no_later : (g f : BindFault) → is_before g f ≡ false → IsNotLater f g
+not_before_no_later g f h =
+    let both = or_parts (nat_lt (place_of g) (place_of f)) ((place_of g == place_of f) && nat_lt (fault_number g) (fault_number f)) h in
+    by (ltb-false (place_of g) (place_of f) both.0) (place_of g == place_of f) refl both.1
+  where
+    by : place_of f ≤ place_of g → (b : Bool) → (place_of g == place_of f) ≡ b → (b && nat_lt (fault_number g) (fault_number f)) ≡ false → IsNotLater f g
+    by low true e k = inr (sym (eqb-true (place_of g) (place_of f) e), ltb-false (fault_number g) (fault_number f) k)
+    by low false e k = let differs = eqb-false (place_of g) (place_of f) e in inl (omega (arith, low, differs))
+
+no_later_itself : (f : BindFault) → IsNotLater f f
+no_later_itself f = inr (refl, omega arith)
+
+no_later_on : (f g h : BindFault) → IsNotLater f g → IsNotLater g h → IsNotLater f h
+no_later_on f g h (inl a) (inl b) = inl (omega (arith, a, b))
+no_later_on f g h (inl a) (inr b) = let e = b.0 in inl (omega (arith, a, e))
+no_later_on f g h (inr a) (inl b) = let e = a.0 in inl (omega (arith, b, e))
+no_later_on f g h (inr a) (inr b) = let l = a.1 in let m = b.1 in inr (a.0 ∙ b.0, omega (arith, l, m))
+
+held_behind : (f : BindFault) (faults : List BindFault) (g : BindFault) → Contains faults g → Contains (f ∷ faults) g
+held_behind f faults g (k, low, is) = (suc k, omega (arith, low), is)
+
+first_is : (faults : List BindFault) (f : BindFault) → first_of faults ≡ Some f → IsFirst faults f
+first_is [] f e = absurd cc
+first_is (g ∷ faults) f e = by (first_of faults) refl e (first_is faults)
+  where
+    alone : faults ≡ [] → g ≡ f → IsFirst (g ∷ faults) f
+    alone none is = record {
+      among = (0, omega arith, is);
+      first = λ other held. each other held;
+    }
+      where
+        each : (other : BindFault) → Contains (g ∷ faults) other → IsNotLater f other
+        each other (zero, low, at) = subst (λ (h : BindFault). IsNotLater f h) (sym is ∙ at) (no_later_itself f)
+        each other (suc k, low, at) = let short = ap length none in absurd (omega (arith, low, short))
+
+    with_first : (h : BindFault) → IsFirst faults h → (b : Bool) → is_before h g ≡ b → (if b then Some h else Some g) ≡ Some f → IsFirst (g ∷ faults) f
+    with_first h held true before is =
+        let same : h ≡ f = cc in
+        subst (IsFirst (g ∷ faults)) same (record { among = held_behind g faults h held.among; first = λ other at. each other at })
+      where
+        each : (other : BindFault) → Contains (g ∷ faults) other → IsNotLater h other
+        each other (zero, low, at) = subst (IsNotLater h) at (before_no_later h g before)
+        each other (suc k, low, at) = held.first other (k, omega (arith, low), at)
+    with_first h held false before is =
+        let same : g ≡ f = cc in
+        subst (IsFirst (g ∷ faults)) same (record { among = (0, omega arith, refl); first = λ other at. each other at })
+      where
+        each : (other : BindFault) → Contains (g ∷ faults) other → IsNotLater g other
+        each other (zero, low, at) = subst (IsNotLater g) at (no_later_itself g)
+        each other (suc k, low, at) = no_later_on g h other (not_before_no_later h g before) (held.first other (k, omega (arith, low), at))
+
+    by : (o : Option BindFault) → first_of faults ≡ o → sooner (Some g) o ≡ Some f → ((h : BindFault) → first_of faults ≡ Some h → IsFirst faults h) → IsFirst (g ∷ faults) f
+    by None none is rest = let same : g ≡ f = cc in alone (none_first faults none) same
+    by (Some h) some is rest = with_first h (rest h some) (is_before h g) refl is
+
+-- ---- a fault is told by its place and its number
+
+numbered : ℕ → ℕ → BindFault
+numbered at number =
+    if number == 1 then fault.UnknownTable at
+    else if number == 2 then fault.RepeatedAlias at
+    else if number == 3 then fault.UnknownAlias at
+    else if number == 4 then fault.UnknownColumn at
+    else if number == 5 then fault.AmbiguousColumn at
+    else if number == 6 then fault.TypeMismatch at
+    else if number == 7 then fault.UnknownFunction at
+    else if number == 8 then fault.WrongArguments at
+    else if number == 9 then fault.TooManyAliases at
+    else if number == 10 then fault.TooManyConjuncts at
+    else if number == 11 then fault.TooManyTerms at
+    else if number == 12 then fault.Unreachable at
+    else fault.Memory
+
+numbered_is : (f : BindFault) → numbered (place_of f) (fault_number f) ≡ f
+unfolding numbered
+numbered_is (fault.UnknownTable at) = refl
+numbered_is (fault.RepeatedAlias at) = refl
+numbered_is (fault.UnknownAlias at) = refl
+numbered_is (fault.UnknownColumn at) = refl
+numbered_is (fault.AmbiguousColumn at) = refl
+numbered_is (fault.TypeMismatch at) = refl
+numbered_is (fault.UnknownFunction at) = refl
+numbered_is (fault.WrongArguments at) = refl
+numbered_is (fault.TooManyAliases at) = refl
+numbered_is (fault.TooManyConjuncts at) = refl
+numbered_is (fault.TooManyTerms at) = refl
+numbered_is (fault.Unreachable alias) = refl
+numbered_is fault.Memory = refl
+
+same_fault : (f g : BindFault) → place_of f ≡ place_of g → fault_number f ≡ fault_number g → f ≡ g
+same_fault f g e h =
+    sym (numbered_is f) ∙ ap (λ (at : ℕ). numbered at (fault_number f)) e ∙ ap (numbered (place_of g)) h ∙ numbered_is g
+
+first_unique : (faults : List BindFault) (f g : BindFault) → IsFirst faults f → IsFirst faults g → f ≡ g
+first_unique faults f g a b = by (a.first g b.among) (b.first f a.among)
+  where
+    by : IsNotLater f g → IsNotLater g f → f ≡ g
+    by (inl x) (inl y) = absurd (omega (arith, x, y))
+    by (inl x) (inr y) = let e = y.0 in absurd (omega (arith, x, e))
+    by (inr x) (inl y) = let e = x.0 in absurd (omega (arith, y, e))
+    by (inr x) (inr y) = let l = x.1 in let m = y.1 in same_fault f g x.0 (omega (arith, l, m))
+
+no_first : (faults : List BindFault) (f : BindFault) → faults ≡ [] → IsFirst faults f → ⊥
+no_first faults f none first =
+    let h : Contains [] f = subst (λ (fs : List BindFault). Contains fs f) none first.among in
+    let low = h.1 in omega (arith, low)
+
+-- ---- one answer
+
+unreached_twice : (block : Block) (a b : ℕ) → IsFirstUnreached block a → IsFirstUnreached block b → a ≡ b
+unreached_twice block a b x y = by (cases_order a b)
+  where
+    by : (a ≡ b) ⊎ ((a < b) ⊎ (b < a)) → a ≡ b
+    by (inl e) = e
+    by (inr (inl low)) = absurd (x.unreached (y.first a low))
+    by (inr (inr low)) = absurd (y.unreached (x.first b low))
+
+module _ (scope : Scope) (s : Statement) where
+  -- a statement has one fault
+  pub one_fault : (f g : BindFault) → IsBindFault scope s f → IsBindFault scope s g → f ≡ g
+  one_fault f g (inl a) (inl b) = first_unique (from_faults scope s.sources) f g a b
+  one_fault f g (inl a) (inr b) = absurd (no_first (from_faults scope s.sources) f b.0 a)
+  one_fault f g (inr a) (inl b) = absurd (no_first (from_faults scope s.sources) g a.0 b)
+  one_fault f g (inr (x, inl a)) (inr (y, inl b)) = first_unique (rest_faults scope s) f g a b
+  one_fault f g (inr (x, inl a)) (inr (y, inr b)) = absurd (no_first (rest_faults scope s) f b.0 a)
+  one_fault f g (inr (x, inr a)) (inr (y, inl b)) = absurd (no_first (rest_faults scope s) g a.0 b)
+  one_fault f g (inr (x, inr a)) (inr (y, inr b)) =
+      let u = a.1 in
+      let v = b.1 in
+      u.1 ∙ ap fault.Unreachable (unreached_twice (block_of scope s) u.0 v.0 u.2 v.2) ∙ sym v.1
+
+  reached_each : (block : Block) → IsReachable block → (a : ℕ) → a < length block.aliases → IsReached block a
+  reached_each block h a low = record {
+    scanned = h.first;
+    u = h.u;
+    at = h.at;
+    scan = h.scanned;
+    within = λ set' closed. h.each set' closed a low;
+  }
+
+  -- and none beside a block
+  pub no_fault : (block : Block) (f : BindFault) → IsBound scope s block → IsBindFault scope s f → ⊥
+  no_fault block f bound (inl a) = no_first (from_faults scope s.sources) f bound.from a
+  no_fault block f bound (inr (x, inl a)) = no_first (rest_faults scope s) f bound.rest a
+  no_fault block f bound (inr (x, inr a)) =
+      let u = a.1.2 in
+      u.unreached (reached_each (block_of scope s) (subst IsReachable bound.is bound.reachable) a.1.0 u.there)
+
+  pub one_block : (x y : Block) → IsBound scope s x → IsBound scope s y → x ≡ y
+  one_block x y a b = a.is ∙ sym b.is
+
+  -- each clause of an answer
+  pub every_bound : (r : Result Block BindFault) → IsAnswer scope s r → (block : Block) → IsBound scope s block
+      → MatchResult r (λ found. found ≡ block) (λ f. f ≡ fault.Memory)
+  every_bound (Ok found) h block bound = one_block found block h bound
+  every_bound (Err f) (inl e) block bound = e
+  every_bound (Err f) (inr h) block bound = absurd (no_fault block f bound h)
+
+  pub every_fault : (r : Result Block BindFault) → IsAnswer scope s r → (f : BindFault) → IsBindFault scope s f
+      → MatchResult r (λ block. ⊥) (λ found. (found ≡ f) ⊎ (found ≡ fault.Memory))
+  every_fault (Ok block) h f told = no_fault block f h told
+  every_fault (Err g) (inl e) f told = inr e
+  every_fault (Err g) (inr h) f told = inl (one_fault g f h told)
+
+  -- ---- the rounds
+
+  pub from_answer : (f : BindFault) → first_of (from_faults scope s.sources) ≡ Some f → (f ≡ fault.Memory) ⊎ IsBindFault scope s f
+  from_answer f e = inr (inl (first_is (from_faults scope s.sources) f e))
+
+  pub few_sources : from_faults scope s.sources ≡ [] → length s.sources ≤ 12
+  few_sources e = (first_round scope s.sources e).few
+
+  all_there : (P : ℕ → Type 0) (sources : List Source) → Each (λ (x : Source). IsSome (scope.table x.table.text)) sources
+      → All (λ (one : Option ℕ). IfSome one P) (map (λ (x : Source). scope.table x.table.text) sources)
+      → All (λ (one : Option ℕ). IsSomeAnd one P) (map (λ (x : Source). scope.table x.table.text) sources)
+  all_there P [] h within = All-nil (λ (one : Option ℕ). IsSomeAnd one P)
+  all_there P (x ∷ more) h within =
+      let rest = map (λ (x : Source). scope.table x.table.text) more in
+      All-cons (λ (one : Option ℕ). IsSomeAnd one P) (scope.table x.table.text) rest
+      (one (scope.table x.table.text) h.0 (All-head (λ (one : Option ℕ). IfSome one P) (scope.table x.table.text) rest within))
+      (all_there P more h.1 (All-tail (λ (one : Option ℕ). IfSome one P) (scope.table x.table.text) rest within))
+    where
+      one : (o : Option ℕ) → IsSome o → IfSome o P → IsSomeAnd o P
+      one None h k = absurd cc
+      one (Some n) h k = k
+
+  pub found_there : (P : ℕ → Type 0) (found : List (Option ℕ)) → IsFound scope s.sources found → from_faults scope s.sources ≡ []
+      → All (λ (one : Option ℕ). IfSome one P) found → All (λ (one : Option ℕ). IsSomeAnd one P) found
+  found_there P found is e within =
+      subst (All (λ (one : Option ℕ). IsSomeAnd one P)) (sym is)
+      (all_there P s.sources (first_round scope s.sources e).found (subst (All (λ (one : Option ℕ). IfSome one P)) is within))
+
+  pub rest_answer : from_faults scope s.sources ≡ [] → (f : BindFault) → (f ≡ fault.Memory) ⊎ (first_of (rest_faults scope s) ≡ Some f)
+      → (f ≡ fault.Memory) ⊎ IsBindFault scope s f
+  rest_answer from f (inl e) = inl e
+  rest_answer from f (inr e) = inr (inr (from, inl (first_is (rest_faults scope s) f e)))
+
+  -- a fault that is handed on
+  pub handed_on : (r : Result Block BindFault) (f : BindFault) → IsErrAnd r (λ given. given ≡ f) → (f ≡ fault.Memory) ⊎ IsBindFault scope s f → IsAnswer scope s r
+  handed_on (Ok block) f h told = absurd h
+  handed_on (Err g) f h told = subst (λ (e : BindFault). (e ≡ fault.Memory) ⊎ IsBindFault scope s e) (sym h) told
+
+  map_over : {X Y Z : Type 0} (f : X → Y) (g : Y → Z) (xs : List X) → map g (map f xs) ≡ map (λ x. g (f x)) xs
+  map_over f g [] = refl
+  map_over f g (x ∷ xs) = ap (λ zs. g (f x) ∷ zs) (map_over f g xs)
+
+  uses_are : (found : List (Option ℕ)) → IsFound scope s.sources found → map (used_at scope.accesses) found ≡ map (use_of scope) s.sources
+  uses_are found is = ap (λ (f : List (Option ℕ)). map (used_at scope.accesses) f) is
+      ∙ map_over (λ (x : Source). scope.table x.table.text) (used_at scope.accesses) s.sources
+
+  pub block_is : (found : List (Option ℕ)) → IsFound scope s.sources found
+      → block_with scope.accesses found (aliases_in scope s) s.order (output_of (aliases_in scope s) s.items) (placed_in scope.calls (aliases_in scope s) s)
+      ≡ block_of scope s
+  unfolding block_of
+  block_is found is = ap with_uses (uses_are found is)
+    where
+      with_uses : List AliasUse → Block
+      with_uses uses = record {
+        aliases = uses;
+        conjuncts = map conjunct_of (placed_in scope.calls (aliases_in scope s) s);
+        output = output_of (aliases_in scope s) s.items;
+        order = map (key_of (aliases_in scope s) (output_of (aliases_in scope s) s.items)) s.order;
+      }
+
+  length-block : length (block_of scope s).aliases ≡ length s.sources
+  unfolding block_of
+  length-block = length-map s.sources (use_of scope)
+
+  pub few_uses : from_faults scope s.sources ≡ [] → (block : Block) → block ≡ block_of scope s → length block.aliases ≤ 12
+  few_uses from block is =
+      let same = ap (λ (b : Block). length b.aliases) is ∙ length-block in
+      let few = few_sources from in
+      omega (arith, same, few)
+
+  -- what the reach of a block says of the statement
+  pub reach_answer : from_faults scope s.sources ≡ [] → first_of (rest_faults scope s) ≡ None → 0 < length s.sources
+      → (block : Block) → block ≡ block_of scope s → (r : Result Block BindFault)
+      → IfOk r (λ found. found ≡ block) → IfOk r (λ found. first_unreached block ≡ None)
+      → IfErr r (λ f. (f ≡ fault.Memory) ⊎ ((alias : ℕ) × ((f ≡ fault.Unreachable alias) × (first_unreached block ≡ Some alias)))) → IsAnswer scope s r
+  reach_answer from rest some block is (Ok found) same reached told =
+      let any : 0 < length (block_of scope s).aliases = (let l = length-block in omega (arith, some, l)) in
+      record {
+        from = from;
+        rest = none_first (rest_faults scope s) rest;
+        is = same ∙ is;
+        reachable = subst IsReachable (sym (same ∙ is)) (all_reached (block_of scope s) any (ap first_unreached (sym is) ∙ reached));
+      }
+  reach_answer from rest some block is (Err f) same reached (inl e) = inl e
+  reach_answer from rest some block is (Err f) same reached (inr u) =
+      let any : 0 < length (block_of scope s).aliases = (let l = length-block in omega (arith, some, l)) in
+      inr (inr (from, inr (none_first (rest_faults scope s) rest, (u.0, u.1.0, unreached (block_of scope s) u.0 any (ap first_unreached (sym is) ∙ u.1.1)))))
+
+  -- the block fits
+  each_within : (P : ℕ → Type 0) (sources : List Source) → All (λ (one : Option ℕ). IfSome one P) (map (λ (x : Source). scope.table x.table.text) sources)
+      → Each (λ (x : Source). IfSome (scope.table x.table.text) P) sources
+  each_within P [] h = tt
+  each_within P (x ∷ more) h =
+      let rest = map (λ (x : Source). scope.table x.table.text) more in (
+        All-head (λ (one : Option ℕ). IfSome one P) (scope.table x.table.text) rest h,
+        each_within P more (All-tail (λ (one : Option ℕ). IfSome one P) (scope.table x.table.text) rest h),
+      )
+
+  pub fit_answer : IsSound s → AreAccesses scope.tables scope.accesses → (found : List (Option ℕ)) → IsFound scope s.sources found
+      → All (λ (one : Option ℕ). IfSome one (λ (table : ℕ). table < length scope.tables)) found
+      → All (λ (a : Alias). 0 < length a.columns) (aliases_in scope s)
+      → from_faults scope s.sources ≡ [] → first_of (rest_faults scope s) ≡ None
+      → (block : Block) → block ≡ block_of scope s → (r : Result Block BindFault) → IfOk r (λ found. found ≡ block) → IfOk r (IsFit scope.calls.kinds scope.tables)
+  fit_answer sound accesses found is within some from rest block same (Ok b) e =
+      subst (IsFit scope.calls.kinds scope.tables) (sym (e ∙ same))
+      (block_fits scope s sound accesses
+      (each_within (λ (table : ℕ). table < length scope.tables) s.sources
+      (subst (All (λ (one : Option ℕ). IfSome one (λ (table : ℕ). table < length scope.tables))) is within))
+      (recursion_from_All (λ (a : Alias). 0 < length a.columns) (aliases_in scope s) some) from (none_first (rest_faults scope s) rest))
+  fit_answer sound accesses found is within some from rest block same (Err f) e = tt
+
+  -- there is one
+  pub some_answer : 0 < length s.sources → ((block : Block) × IsBound scope s block) ⊎ ((f : BindFault) × IsBindFault scope s f)
+  some_answer some = by (first_of (from_faults scope s.sources)) refl
+    where
+      any : 0 < length (block_of scope s).aliases
+      any = let l = length-block in omega (arith, some, l)
+
+      reach : from_faults scope s.sources ≡ [] → rest_faults scope s ≡ [] → (o : Option ℕ) → first_unreached (block_of scope s) ≡ o
+          → ((block : Block) × IsBound scope s block) ⊎ ((f : BindFault) × IsBindFault scope s f)
+      reach from rest None e =
+          inl (block_of scope s, record { from = from; rest = rest; is = refl; reachable = all_reached (block_of scope s) any e })
+      reach from rest (Some alias) e =
+          inr (fault.Unreachable alias, inr (from, inr (rest, (alias, refl, unreached (block_of scope s) alias any e))))
+
+      rest' : from_faults scope s.sources ≡ [] → (o : Option BindFault) → first_of (rest_faults scope s) ≡ o
+          → ((block : Block) × IsBound scope s block) ⊎ ((f : BindFault) × IsBindFault scope s f)
+      rest' from None e = reach from (none_first (rest_faults scope s) e) (first_unreached (block_of scope s)) refl
+      rest' from (Some f) e = inr (f, inr (from, inl (first_is (rest_faults scope s) f e)))
+
+      by : (o : Option BindFault) → first_of (from_faults scope s.sources) ≡ o
+          → ((block : Block) × IsBound scope s block) ⊎ ((f : BindFault) × IsBindFault scope s f)
+      by None e = rest' (none_first (from_faults scope s.sources) e) (first_of (rest_faults scope s)) refl
+      by (Some f) e = inr (f, inl (first_is (from_faults scope s.sources) f e))

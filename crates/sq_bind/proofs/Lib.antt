@@ -1,0 +1,21 @@
+mod Walk
+mod VisibleLemmas
+mod FaultLemmas
+mod OperandLemmas
+mod ConditionLemmas
+mod SplitLemmas
+mod SelectLemmas
+mod OrderLemmas
+mod SourceLemmas
+mod MarkLemmas
+mod ReachLemmas
+mod HeldLemmas
+mod OperandFits
+mod TreeFits
+mod SpanLemmas
+mod BlockFits
+pub mod ParsedLemmas
+mod PartLemmas
+mod OccursLemmas
+pub mod AnswerLemmas
+mod RepeatedLemmas

@@ -1,0 +1,15 @@
+pub mod Fault
+pub mod Visible
+pub mod Seen
+pub mod Operand
+pub mod Compared
+pub mod Condition
+pub mod Statement
+pub mod Ordered
+pub mod Found
+pub mod Answer
+pub mod Given
+pub mod Sound
+pub mod Reached
+pub mod Told
+pub mod Repeated
