@@ -19,6 +19,7 @@ ghost use Rattle.sq_bind.specs.declared.fault.BindFault.{BindFault};
 use crate::alias::aliases_of;
 use crate::block::{block_of, rest_fault};
 use crate::fault::BindFault;
+use crate::output::meanings_of;
 use crate::part::placed_of;
 use crate::reach::first_unreached;
 use crate::select::output_of;
@@ -51,19 +52,23 @@ fn block_or_fault<F: Predicates>(
         ⊎ (first_of (faults_among calls (map seen aliases.now) statement.now) ≡ Some f)) }
 {
     let output = output_of(alloc, aliases, &statement.items)?;
+    let names = meanings_of(alloc, output.as_slice())?;
     let placed = placed_of(alloc, functions, aliases, statement)?;
     let fault = rest_fault(
+        alloc,
         functions,
         aliases,
         statement,
-        output.as_slice(),
+        &names,
         placed.as_slice(),
-    );
+    )?;
     if let Some(fault) = fault {
         return Err(fault);
     }
     let order = statement.order.as_slice();
-    let block = block_of(alloc, accesses, found, aliases, order, output, placed)?;
+    let block = block_of(
+        alloc, accesses, found, aliases, order, &names, output, placed,
+    )?;
     Ok(block)
 }
 
@@ -119,8 +124,7 @@ fn answer<F: Predicates>(
 /// that a name may mean are told apart but for the case of ASCII letters.
 ///
 /// The rules are those of SQL-92 (ISO/IEC 9075:1992) on the scope of names and the types of operands.
-/// The time goes with the length of the statement times the number of columns that are seen, and with
-/// the columns of ORDER BY times the output columns.
+/// The time goes with the length of the statement times the number of columns that are seen.
 ///
 /// # Errors
 /// `Memory`, or the fault of the first of these rounds that has one. Within the first two it is the

@@ -6,48 +6,53 @@ ghost use Rattle.sq_bind.specs.Fault.{first_of};
 ghost use Rattle.sq_bind.specs.Condition.{calling};
 ghost use Rattle.sq_bind.specs.Statement as spec;
 ghost use Rattle.sq_bind.specs.Found.{used_at, block_with};
+ghost use Rattle.sq_bind.specs.Ordered.{HoldsOutput};
 ghost use Rattle.sq_bind.specs.Seen.{seen};
 
 use crate::alias::uses_of;
 use crate::conjunct::Placed;
 use crate::fault::{BindFault, sooner};
 use crate::order::{order_fault, order_of};
+use crate::output::Meant;
 use crate::part::{extra_fault, parts_fault};
 use crate::select::output_fault;
 use crate::span::conjuncts_of;
 use crate::visible::SeenAlias;
+use indexmap::IndexMap;
 use sq_expr::{Access, Block, OutCol};
 use sq_parse::{OrderItem, Statement};
 use sq_value::{Memory, Predicates};
 use sqlite_items::Items;
 use std::alloc::Global;
 
-/// The first fault of the select list, the conditions and ORDER BY, with the output columns and the
-/// conjuncts.
+/// The first fault of the select list, the conditions and ORDER BY, with what the names of the output
+/// columns mean and the conjuncts.
+///
+/// # Errors
+/// `Memory`: there is no memory for a name of ORDER BY.
 pub fn rest_fault<F: Predicates>(
+    alloc: Global,
     functions: &F,
     aliases: &[SeenAlias<'_>],
     statement: &Statement,
-    output: &[OutCol],
+    names: &IndexMap<String, Meant>,
     placed: &[Placed],
-) -> Option<BindFault>
+) -> Result<Option<BindFault>, Memory>
     requires seen { length statement.now.sources ≤ length aliases.now }
-    requires output { output.now ≡ spec.output_of (map seen aliases.now) statement.now.items }
+    requires output { HoldsOutput names.now.entries (spec.output_of (map seen aliases.now) statement.now.items) }
     requires placed { let calls = calling (F.number_of functions.now) (F.kinds_of functions.now) in
         placed.now ≡ spec.placed_in calls (map seen aliases.now) statement.now }
     ensures { let calls = calling (F.number_of functions.now) (F.kinds_of functions.now) in
-        result ≡ first_of (spec.faults_among calls (map seen aliases.now) statement.now) }
+        IfOk result (λ fault. fault ≡ first_of (spec.faults_among calls (map seen aliases.now) statement.now)) }
 {
     let selected = output_fault(aliases, &statement.items);
     let conditions = parts_fault(functions, aliases, statement);
-    let order = order_fault(aliases, output, statement.order.as_slice());
-    sooner(
-        selected,
-        sooner(conditions, sooner(extra_fault(placed), order)),
-    )
+    let order = order_fault(alloc, aliases, names, statement.order.as_slice())?;
+    let rest = sooner(conditions, sooner(extra_fault(placed), order));
+    Ok(sooner(selected, rest))
 }
 
-/// The block of these output columns and conjuncts.
+/// The block of these output columns, whose names mean this, and conjuncts.
 ///
 /// # Errors
 /// `Memory`: there is no memory for it.
@@ -57,13 +62,15 @@ pub fn block_of(
     found: &[Option<u32>],
     aliases: &[SeenAlias<'_>],
     order: &[OrderItem],
+    names: &IndexMap<String, Meant>,
     output: Vec<OutCol>,
     placed: Vec<Placed>,
 ) -> Result<Block, Memory>
+    requires { HoldsOutput names.now.entries output.items }
     ensures { IfOk result (λ block.
         block ≡ block_with accesses.now found.now (map seen aliases.now) order.now output.items placed.items) }
 {
-    let order = order_of(alloc, aliases, output.as_slice(), order)?;
+    let order = order_of(alloc, aliases, names, order)?;
     let conjuncts = conjuncts_of(alloc, placed)?;
     let aliases = uses_of(alloc, accesses, found)?;
     Ok(Block {

@@ -10,6 +10,7 @@ mod fault;
 mod names;
 mod operand;
 mod order;
+mod output;
 mod part;
 mod reach;
 mod select;

@@ -21,11 +21,10 @@ returns g c =
     let shown = output_faults aliases s.items in
     let conditions = flat_map (part_faults calls) (parts_of aliases s) in
     let keys = flat_map (key_faults aliases output) s.order in
-    let order = c.order_fault-order.ensures
-    ∙ ap (λ (o : List OutCol). first_of (flat_map (key_faults aliases o) c.as_slice.result.now)) c.requires.output
+    let order = c.in_ok-order.ensures output c.requires.output
     ∙ ap (λ (ks : List OrderItem). first_of (flat_map (key_faults aliases output) ks)) c.as_slice.ensures in
     let extra = c.extra_fault.ensures ∙ ap (λ (ps : List Placed). first_of (conjunct_faults ps)) c.requires.placed in
-    let last = c.sooner.ensures ∙ two_firsts (conjunct_faults placed) keys c.extra_fault.result c.order_fault-order.result extra order in
-    let more = c.sooner-2.ensures
+    let last = c.sooner.ensures ∙ two_firsts (conjunct_faults placed) keys c.extra_fault.result c.in_ok-order.order extra order in
+    let more = c.sooner-rest.ensures
     ∙ two_firsts conditions _ c.parts_fault-conditions.result c.sooner.result c.parts_fault-conditions.ensures last in
-    c.sooner-3.ensures ∙ two_firsts shown _ c.output_fault-selected.result c.sooner-2.result c.output_fault-selected.ensures more
+    c.sooner-2.ensures ∙ two_firsts shown _ c.output_fault-selected.result c.sooner-rest.result c.output_fault-selected.ensures more
