@@ -1,3 +1,5 @@
 pub mod Shipped
 pub mod Meaning
 pub mod Registry
+pub mod Signatures
+pub mod ShippedSignatures

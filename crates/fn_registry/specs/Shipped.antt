@@ -1,7 +1,7 @@
 -- The predicates that the program ships: over integers, and Unknown where an argument is null.
-use Rattle.std.specs.Prelude.{ℕ, ◌+◌, ◌-◌, ◌%◌, nat_lt, nat_le, Bool, true, false, ◌&&◌, ◌||◌, ◌==◌, ℤ, pos, negsuc, if◌then◌else◌}
+use Rattle.std.specs.Prelude.{ℕ, ◌+◌, ◌%◌, nat_lt, nat_le, Bool, true, false, ◌&&◌, ◌||◌, ◌==◌, ℤ, pos, negsuc, if◌then◌else◌}
 use Rattle.sq_value.specs.declared.value.Value.{Value}
-use Rattle.sq_value.specs.declared.value.Value.TheVariants.{Null, Int, Text, Decimal}
+use Rattle.sq_value.specs.declared.value.Value.TheVariants.{Int}
 use Rattle.sq_value.specs.declared.value.Truth.{Truth}
 use Rattle.sq_value.specs.declared.value.Truth.TheVariants.{True, False, Unknown}
 

@@ -2,10 +2,13 @@
 //! proved to answer.
 #![tactic(auto)]
 
+mod adding;
+mod calling;
 mod fault;
 mod functions;
 mod registered;
 mod shipped;
+mod shipped_functions;
 mod signature;
 #[cfg(test)]
 mod tests;
@@ -14,4 +17,5 @@ pub use fault::AddFault;
 pub use functions::Functions;
 pub use registered::{Registered, Stored};
 pub use shipped::{SHIPPED, divides, near10, same_sign};
+pub use shipped_functions::ShippedFunctions;
 pub use signature::Signature;

@@ -1,5 +1,5 @@
 use Rattle.std.proofs.Common.{length}
-use Rattle.fn_registry.proofs.functions.+has_name.Given as goal
+use Rattle.fn_registry.proofs.adding.+has_name.Given as goal
 
 abbrev pub decreases-has_name : goal.decreases-has_name
 decreases-has_name g l = length l.items.now
