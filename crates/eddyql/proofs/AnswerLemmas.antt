@@ -1,5 +1,5 @@
 -- Answers: the matches that are found, put in order, are the answer; and texts that are written one behind another.
-use Rattle.std.proofs.Common.{◌≡◌, ℕ, ◌+◌, ◌<◌, ◌≤◌, List, [], ◌∷◌, ◌++◌, length, take, drop, get_or, map, Option, Some, None, Result, Ok, Err, refl, sym, ◌∙◌, ap, subst, arith, append-nil, append_assoc}
+use Rattle.std.proofs.Common.{◌≡◌, ◌≢◌, ℕ, ◌+◌, ◌<◌, ◌≤◌, List, [], ◌∷◌, ◌++◌, length, take, drop, get_or, map, Option, Some, None, Result, Ok, Err, refl, sym, ◌∙◌, ap, subst, arith, append-nil, append_assoc}
 use Rattle.std.specs.Prelude.{All, AllPairs, IfOk, OnOk, OnErr}
 use Rattle.std.specs.Result.{IsErrAnd}
 use Rattle.std.specs.List.{flat_map}
@@ -13,7 +13,7 @@ use Rattle.std.proofs.Math.Seq.{take-append_seam}
 use Rattle.std.proofs.lemmas.List.{length-map, get_or-map, take_more}
 use Rattle.std.proofs.lemmas.List.Concat.{flat_map-append, flat_map-cons}
 use Rattle.std.proofs.lemmas.List.Elements.{All-head, All-tail}
-use Rattle.std.proofs.lemmas.List.Sorted.{IsPermutation-map}
+use Rattle.std.proofs.lemmas.List.Sorted.{IsPermutation-map, IsPermutation-sym, IsPermutation-trans}
 use Rattle.std.proofs.lemmas.Result.{err_from_is_err_and}
 use Rattle.sq_value.specs.Relation.{Relation}
 use Rattle.sq_value.specs.declared.value.Value.{Value}
@@ -29,6 +29,7 @@ use Rattle.bag_meaning.specs.declared.combo.Combo.{Combo}
 use Rattle.bag_meaning.proofs.AnswerLemmas.{IsBefore, AllPairs-bag, IsAnswer-only}
 use Rattle.bag_meaning.proofs.KeyLemmas.{answer_order_total}
 use Rattle.bag_meaning.proofs.ProductRange.{IsCombination, bag-in_range}
+use Rattle.eddy_runs.specs.Complete.{IsBagOf}
 use Rattle.outside.specs.Told.{Adds, AddsFront}
 use Rattle.outside.specs.Faults.{NeverFalls, RoseOrFull}
 use Rattle.outside.proofs.Laws.{RoseOrFull-earlier, RoseOrFull-later, Adds-nothing, Adds-twice, AddsFront-whole, AddsFront-nothing, AddsFront-after, AddsFront-longer}
@@ -39,6 +40,7 @@ use Rattle.result_sink.specs.declared.fault.WriteFault.TheVariants as write
 use Rattle.eddyql.specs.Doing.{Wrote}
 use Rattle.eddyql.specs.Outcome.{block_text, behind_line, text_of}
 use Rattle.eddyql.specs.Seen.{Sink}
+use Rattle.eddyql.proofs.ApartLemmas.{AreApart, AreApart-from_pairs, AreApart-permutation}
 
 -- ---- the answer
 
@@ -51,19 +53,29 @@ map_same_on f [] h = refl
 map_same_on f (x ∷ xs) h =
     ap (λ y. y ∷ map f xs) (All-head (λ z. f z ≡ z) x xs h) ∙ ap (λ ys. x ∷ ys) (map_same_on f xs (All-tail (λ z. f z ≡ z) x xs h))
 
-map_twice : (f : Combo → List ℕ) (g : List ℕ → Combo) (xs : List (List ℕ)) → map f (map g xs) ≡ map (λ x. f (g x)) xs
-map_twice f g [] = refl
-map_twice f g (x ∷ xs) = ap (λ ys. f (g x) ∷ ys) (map_twice f g xs)
-
 matches_same : (gives : ℕ → Value → Value → Truth) (block : Block) (tables : List Relation)
     → All (λ rows. rows_of_combo block (stamped 0 rows) ≡ rows) (bag gives block tables)
 matches_same gives block tables k d h = rows_of_stamped block (get_or (bag gives block tables) k d) (bag-in_range gives block tables k d h).count
 
+-- the rows of what was found are the matches in another order
 rows_found : (gives : ℕ → Value → Value → Truth) (block : Block) (tables : List Relation) (combos : List Combo)
-    → combos ≡ map (stamped 0) (bag gives block tables) → map (rows_of_combo block) combos ≡ bag gives block tables
-rows_found gives block tables combos e =
-    ap (map (rows_of_combo block)) e ∙ map_twice (rows_of_combo block) (stamped 0) (bag gives block tables)
-    ∙ map_same_on (λ x. rows_of_combo block (stamped 0 x)) (bag gives block tables) (matches_same gives block tables)
+    → IsBagOf gives block tables combos → IsPermutation (map (rows_of_combo block) combos) (bag gives block tables)
+rows_found gives block tables combos moved =
+    let rows : Combo → List ℕ = λ c. c.rows in
+    let cut : List ℕ → List ℕ = take (length block.aliases) in
+    let given : map cut (map rows combos) ≡ map (rows_of_combo block) combos = map_twice combos in
+    let due : map cut (map padded (bag gives block tables)) ≡ bag gives block tables = cut_twice (bag gives block tables) ∙ map_same_on (λ x. rows_of_combo block (stamped 0 x)) (bag gives block tables) (matches_same gives block tables) in
+    subst (λ (xs : List (List ℕ)). IsPermutation xs (bag gives block tables)) given
+    (subst (λ (xs : List (List ℕ)). IsPermutation (map cut (map rows combos)) xs) due
+    (IsPermutation-map cut (map rows combos) (map padded (bag gives block tables)) moved))
+  where
+    map_twice : (cs : List Combo) → map (take (length block.aliases)) (map (λ (c : Combo). c.rows) cs) ≡ map (rows_of_combo block) cs
+    map_twice [] = refl
+    map_twice (c ∷ cs) = ap (λ ys. rows_of_combo block c ∷ ys) (map_twice cs)
+
+    cut_twice : (xs : List (List ℕ)) → map (take (length block.aliases)) (map padded xs) ≡ map (λ x. rows_of_combo block (stamped 0 x)) xs
+    cut_twice [] = refl
+    cut_twice (x ∷ xs) = ap (λ ys. take (length block.aliases) (padded x) ∷ ys) (cut_twice xs)
 
 -- no two matches have equal rows
 equal_rows : (xs : List ℕ) → slice_cmp nat_cmp xs xs ≡ Equal
@@ -78,38 +90,46 @@ apart x y h e = never (sym (subst (λ (z : List ℕ). slice_cmp nat_cmp x z ≡ 
     never : Less ≡ Equal → ⊥
     never f = cc
 
-pub apart_found : (gives : ℕ → Value → Value → Truth) (block : Block) (tables : List Relation) (combos : List Combo)
-    → combos ≡ map (stamped 0) (bag gives block tables) → AllPairs (Differs block) combos
-apart_found gives block tables combos e = subst (AllPairs (Differs block)) (sym e) all
-  where
-    found : List (List ℕ)
-    found = bag gives block tables
+-- the rows of what was found are the matches in another order, and so apart
+apart_matches : (gives : ℕ → Value → Value → Truth) (block : Block) (tables : List Relation) → AreApart [] (bag gives block tables)
+apart_matches gives block tables =
+    AreApart-from_pairs [] (bag gives block tables) (λ i j low within same. apart (get_or (bag gives block tables) i []) (get_or (bag gives block tables) j [])
+    (AllPairs-bag gives block tables i j [] low within) same)
 
-    all : AllPairs (Differs block) (map (stamped 0) found)
+pub apart_found : (gives : ℕ → Value → Value → Truth) (block : Block) (tables : List Relation) (combos : List Combo)
+    → IsBagOf gives block tables combos → AllPairs (Differs block) combos
+apart_found gives block tables combos moved = all
+  where
+    rows : List (List ℕ)
+    rows = map (rows_of_combo block) combos
+
+    spread : AreApart [] rows
+    spread = AreApart-permutation [] (bag gives block tables) rows
+        (IsPermutation-sym rows (bag gives block tables) (rows_found gives block tables combos moved)) (apart_matches gives block tables)
+
+    all : AllPairs (Differs block) combos
     all i j d low within same =
-        let long : length (map (stamped 0) found) ≡ length found = length-map found (stamped 0) in
-        let in_j : j < length found = omega (arith, long, within) in
-        let in_i : i < length found = omega (arith, long, within, low) in
-        let at_i : get_or (map (stamped 0) found) i d ≡ stamped 0 (get_or found i []) = get_or-map (stamped 0) found i [] d in_i in
-        let at_j : get_or (map (stamped 0) found) j d ≡ stamped 0 (get_or found j []) = get_or-map (stamped 0) found j [] d in_j in
-        apart (get_or found i []) (get_or found j []) (AllPairs-bag gives block tables i j [] low in_j)
-        (sym (matches_same gives block tables i [] in_i) ∙ sym (ap (rows_of_combo block) at_i) ∙ same ∙ ap (rows_of_combo block) at_j
-        ∙ matches_same gives block tables j [] in_j)
+        let long : length rows ≡ length combos = length-map combos (rows_of_combo block) in
+        let ne : i ≢ j = λ (e : i ≡ j). omega (arith, low, e) in
+        spread i j ne (omega (arith, long, low, within)) (omega (arith, long, within))
+        (get_or-map (rows_of_combo block) combos i d [] (omega (arith, low, within)) ∙ same ∙ sym (get_or-map (rows_of_combo block) combos j d [] within))
 
 -- what was found, put in order, is the answer
 pub answer_found : (gives : ℕ → Value → Value → Truth) (block : Block) (tables : List Relation) (combos sorted : List Combo)
-    → combos ≡ map (stamped 0) (bag gives block tables) → IsPermutation combos sorted → Rises (answer_order block tables) (map (rows_of_combo block) sorted)
+    → IsBagOf gives block tables combos → IsPermutation combos sorted → Rises (answer_order block tables) (map (rows_of_combo block) sorted)
     → map (rows_of_combo block) sorted ≡ answer gives block tables
-answer_found gives block tables combos sorted e moved rises =
+answer_found gives block tables combos sorted found moved rises =
+    let given : List (List ℕ) = map (rows_of_combo block) combos in
     IsAnswer-only gives block tables (answer_order_total sorted_by_total block tables) (map (rows_of_combo block) sorted)
     (record {
-      permutation = subst (λ (xs : List (List ℕ)). IsPermutation xs (map (rows_of_combo block) sorted)) (rows_found gives block tables combos e)
+      permutation = IsPermutation-trans (bag gives block tables) given (map (rows_of_combo block) sorted)
+          (IsPermutation-sym given (bag gives block tables) (rows_found gives block tables combos found))
           (IsPermutation-map (rows_of_combo block) combos sorted moved);
       rises = rises;
     })
 
 pub answer_sorted : {T E : Type 0} (items : T → List Combo) (r : Result T E) (gives : ℕ → Value → Value → Truth) (block : Block) (tables : List Relation)
-    (combos : List Combo) → combos ≡ map (stamped 0) (bag gives block tables) → IfOk r (λ x. IsPermutation combos (items x))
+    (combos : List Combo) → IsBagOf gives block tables combos → IfOk r (λ x. IsPermutation combos (items x))
     → IfOk r (λ x. Rises (answer_order block tables) (map (rows_of_combo block) (items x)))
     → IfOk r (λ x. map (rows_of_combo block) (items x) ≡ answer gives block tables)
 answer_sorted items (Ok x) gives block tables combos e moved rises = answer_found gives block tables combos (items x) e moved rises

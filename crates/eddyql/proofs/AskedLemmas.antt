@@ -1,15 +1,30 @@
 -- What words ask for, by what the command line reads of them.
-use Rattle.std.proofs.Common.{◌≡◌, ℕ, List, Option, Some, None, ap, ◌∙◌, refl}
+use Rattle.std.proofs.Common.{◌≡◌, ℕ, Bool, true, false, if◌then◌else◌, List, Option, Some, None, ap, ◌∙◌, refl, subst}
 use Rattle.std.specs.Prelude.{option_and_then}
 use Rattle.command_line.specs.Form.{command}
 use Rattle.command_line.specs.declared.command.Command.{Command}
-use Rattle.command_line.specs.declared.command.Query.{Query}
-use Rattle.eddyql.specs.Asked.{query_asked, asked}
+use Rattle.command_line.specs.declared.command.Task.{Task}
+use Rattle.command_line.specs.declared.command.Task.TheVariants.{Query, Demo}
+use Rattle.command_line.specs.Within.{IsQuery, IsTask, IsWithin}
+use Rattle.eddyql.specs.Asked.{request_of, request_in, asked, is_run_yet}
+use Rattle.eddyql.specs.Settings.{AreSettings, settings_of}
+use Rattle.eddyql.specs.declared.asking.Request.{Request}
 
-pub asked_of : (words : List (List ℕ)) (c : Command) (o : Option Query) → command words ≡ Some c → query_asked c ≡ o → asked words ≡ o
+pub asked_of : (words : List (List ℕ)) (c : Command) (o : Option Request) → command words ≡ Some c → request_of c ≡ o → asked words ≡ o
 unfolding asked
-asked_of words c o e f = ap (option_and_then query_asked) e ∙ f
+asked_of words c o e f = ap (option_and_then request_of) e ∙ f
 
 pub asked_none : (words : List (List ℕ)) → command words ≡ None → asked words ≡ None
 unfolding asked
-asked_none words e = ap (option_and_then query_asked) e
+asked_none words e = ap (option_and_then request_of) e
+
+-- what is asked for is within what the words may ask for
+pub request_within : (c : Command) (r : Request) → request_of c ≡ Some r → IsWithin c → IsQuery r.query × AreSettings r.settings
+request_within c r e w = by (is_run_yet c) c.task w.task e
+  where
+    by : (b : Bool) (t : Task) → IsTask t → (if b then request_in c t else None) ≡ Some r → IsQuery r.query × AreSettings r.settings
+    by false t h k = absurd cc
+    by true (Query q) h k =
+        let same : record { query = q; settings = settings_of c } ≡ r = cc in
+        subst (λ (x : Request). IsQuery x.query × AreSettings x.settings) same (h, w.route)
+    by true (Demo n) h k = absurd cc

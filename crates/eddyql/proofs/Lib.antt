@@ -4,6 +4,7 @@ pub mod DoingLemmas
 pub mod FilesLemmas
 pub mod AccessLemmas
 pub mod BindingLemmas
+pub mod ApartLemmas
 pub mod AnswerLemmas
 pub mod OneOutcome
 pub mod RunLemmas

@@ -88,9 +88,9 @@ one_plan p q files =
 pub same_outcome : (p : Predicates) (words : List (List ℕ)) (files : List File) → IsOne (IsOutcome p words files)
 same_outcome p words files x y h k =
     one_then (ComesTo (or_refuse status.Usage (asked words)))
-    (λ q. AndThen (IsPlan p q files) (λ plan. ComesTo (Ok (text_of p.gives plan.catalogue.tables plan.blocks))))
+    (λ a. AndThen (IsPlan p a.query files) (λ plan. ComesTo (Ok (text_of p.gives plan.catalogue.tables plan.blocks))))
     (one_given (or_refuse status.Usage (asked words)))
-    (λ q. one_then (IsPlan p q files) (λ plan. ComesTo (Ok (text_of p.gives plan.catalogue.tables plan.blocks))) (one_plan p q files)
+    (λ a. one_then (IsPlan p a.query files) (λ plan. ComesTo (Ok (text_of p.gives plan.catalogue.tables plan.blocks))) (one_plan p a.query files)
     (λ plan. one_given (Ok (text_of p.gives plan.catalogue.tables plan.blocks)))) x y h k
 
 -- ---- there is one
@@ -175,9 +175,9 @@ some_plan p q files =
 some_outcome : (p : Predicates) (words : List (List ℕ)) (files : List File) → Comes (IsOutcome p words files)
 some_outcome p words files =
     some_then (ComesTo (or_refuse status.Usage (asked words)))
-    (λ q. AndThen (IsPlan p q files) (λ plan. ComesTo (Ok (text_of p.gives plan.catalogue.tables plan.blocks))))
+    (λ a. AndThen (IsPlan p a.query files) (λ plan. ComesTo (Ok (text_of p.gives plan.catalogue.tables plan.blocks))))
     (some_given (or_refuse status.Usage (asked words)))
-    (λ q h. some_then (IsPlan p q files) (λ plan. ComesTo (Ok (text_of p.gives plan.catalogue.tables plan.blocks))) (some_plan p q files)
+    (λ a h. some_then (IsPlan p a.query files) (λ plan. ComesTo (Ok (text_of p.gives plan.catalogue.tables plan.blocks))) (some_plan p a.query files)
     (λ plan k. some_given (Ok (text_of p.gives plan.catalogue.tables plan.blocks))))
 
 pub one_outcome : OneOutcome

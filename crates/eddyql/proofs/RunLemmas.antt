@@ -21,6 +21,7 @@ use Rattle.eddyql.specs.Refusal.{MayRefuse, IsEarly}
 use Rattle.eddyql.specs.Run.{MayEnd, IsLate, IsBeforeOutput, status_of, text_due}
 use Rattle.eddyql.specs.Seen.{Folder, Sink}
 use Rattle.eddyql.specs.Steps.{AndThen, Behind, ComesTo, or_refuse}
+use Rattle.eddyql.specs.declared.asking.Request.{Request}
 use Rattle.eddyql.specs.declared.plan.Plan.{Plan}
 use Rattle.eddyql.specs.declared.status.FileOf.{FileOf}
 use Rattle.eddyql.specs.declared.status.FileOf.TheVariants as file
@@ -57,13 +58,13 @@ reached_script q files f e = subst (Reached q files) (sym e) tt
 
 -- ---- the outcome
 
-pub outcome_unplanned : (p : Predicates) (words : List (List ℕ)) (files : List File) (q : Query) (s : Status) → asked words ≡ Some q
-    → IsPlan p q files (Err s) → IsOutcome p words files (Err s)
-outcome_unplanned p words files q s e h = (Ok q, sym (ap (or_refuse status.Usage) e), (Err s, h, refl))
+pub outcome_unplanned : (p : Predicates) (words : List (List ℕ)) (files : List File) (a : Request) (s : Status) → asked words ≡ Some a
+    → IsPlan p a.query files (Err s) → IsOutcome p words files (Err s)
+outcome_unplanned p words files a s e h = (Ok a, sym (ap (or_refuse status.Usage) e), (Err s, h, refl))
 
-pub outcome_planned : (p : Predicates) (words : List (List ℕ)) (files : List File) (q : Query) (plan : Plan) → asked words ≡ Some q
-    → IsPlan p q files (Ok plan) → IsOutcome p words files (Ok (text_of p.gives plan.catalogue.tables plan.blocks))
-outcome_planned p words files q plan e h = (Ok q, sym (ap (or_refuse status.Usage) e), (Ok plan, h, refl))
+pub outcome_planned : (p : Predicates) (words : List (List ℕ)) (files : List File) (a : Request) (plan : Plan) → asked words ≡ Some a
+    → IsPlan p a.query files (Ok plan) → IsOutcome p words files (Ok (text_of p.gives plan.catalogue.tables plan.blocks))
+outcome_planned p words files a plan e h = (Ok a, sym (ap (or_refuse status.Usage) e), (Ok plan, h, refl))
 
 pub outcome_usage : (p : Predicates) (words : List (List ℕ)) (files : List File) → asked words ≡ None → IsOutcome p words files (Err status.Usage)
 outcome_usage p words files e = (Err status.Usage, sym (ap (or_refuse status.Usage) e), refl)
@@ -99,30 +100,30 @@ answered_memory old new text w = record {
 }
 
 -- a run whose plan was made ends by its answers
-pub ended_answered : (p : Predicates) (words : List (List ℕ)) (q : Query) (plan : Plan) (old new : Folder) (before now : Sink) (s : Status)
-    → asked words ≡ Some q → Went old new (λ files. IsPlan p q files (Ok plan))
+pub ended_answered : (p : Predicates) (words : List (List ℕ)) (a : Request) (plan : Plan) (old new : Folder) (before now : Sink) (s : Status)
+    → asked words ≡ Some a → Went old new (λ files. IsPlan p a.query files (Ok plan))
     → Answered before now (text_of p.gives plan.catalogue.tables plan.blocks) s → Ended p words old new before now s
-ended_answered p words q plan old new before now s e w a = record {
+ended_answered p words a plan old new before now s e w put = record {
   keeps = w.keeps;
   folder_counts = omega (arith, w.kept);
-  out_counts = a.counts;
-  ends = λ files told. MayEnd-late _ _ (IsOutcome p words files) text s (due files told) a.late a.write;
-  done = λ is files told. (text, due files told, a.done is);
-  front = λ files told. inr (text, due files told, a.front);
+  out_counts = put.counts;
+  ends = λ files told. MayEnd-late _ _ (IsOutcome p words files) text s (due files told) put.late put.write;
+  done = λ is files told. (text, due files told, put.done is);
+  front = λ files told. inr (text, due files told, put.front);
   kept = holds_anyway s _ w.kept;
-  read = λ f is. absurd (late_not s (status.Read f) a.late is (λ x. x));
-  write = a.write;
-  not_found = λ f is. absurd (late_not s (status.NotFound f) a.late is (λ x. x));
-  nothing = λ silent. absurd (late_not_before s a.late silent);
-  placed = placed s a.late;
-  usage_only = λ is. absurd (late_not s status.Usage a.late is (λ x. x));
+  read = λ f is. absurd (late_not s (status.Read f) put.late is (λ x. x));
+  write = put.write;
+  not_found = λ f is. absurd (late_not s (status.NotFound f) put.late is (λ x. x));
+  nothing = λ silent. absurd (late_not_before s put.late silent);
+  placed = placed s put.late;
+  usage_only = λ is. absurd (late_not s status.Usage put.late is (λ x. x));
 }
   where
     text : List ℕ
     text = text_of p.gives plan.catalogue.tables plan.blocks
 
     due : (files : List File) → old.holds ≡ Some files → IsOutcome p words files (Ok text)
-    due files told = outcome_planned p words files q plan e (w.tells files told)
+    due files told = outcome_planned p words files a plan e (w.tells files told)
 
     placed : (s : Status) → IsLate s → IsPlaced s
     placed status.Done h = tt
@@ -131,16 +132,16 @@ ended_answered p words q plan old new before now s e w a = record {
     placed _ h = absurd h
 
 -- a run whose plan was refused ends by that
-pub ended_stopped : (p : Predicates) (words : List (List ℕ)) (q : Query) (old new : Folder) (before : Sink) (s : Status) → asked words ≡ Some q
-    → Stopped old new (λ files. IsPlan p q files (Err s)) (Reached q) s → Ended p words old new before before s
-ended_stopped p words q old new before s e r = record {
+pub ended_stopped : (p : Predicates) (words : List (List ℕ)) (a : Request) (old new : Folder) (before : Sink) (s : Status) → asked words ≡ Some a
+    → Stopped old new (λ files. IsPlan p a.query files (Err s)) (Reached a.query) s → Ended p words old new before before s
+ended_stopped p words a old new before s e r = record {
   keeps = r.keeps;
   folder_counts = r.counts;
   out_counts = omega arith;
   ends = λ files told.
-      MayEnd-early (λ f. RoseOrFull old.faults new.faults × Reached q files f) (λ f. RoseOrFull old.faults new.faults × ReachedBy words files f) _ (IsSome old.holds) _
-      (IsOutcome p words files) s r.early (outcome_unplanned p words files q s e)
-      (λ f k. (k.0, record { query = q; in_form = e; reached = k.1 })) (reads files told);
+      MayEnd-early (λ f. RoseOrFull old.faults new.faults × Reached a.query files f) (λ f. RoseOrFull old.faults new.faults × ReachedBy words files f) _ (IsSome old.holds) _
+      (IsOutcome p words files) s r.early (outcome_unplanned p words files a s e)
+      (λ f k. (k.0, record { given = a; in_form = e; reached = k.1 })) (reads files told);
   done = λ is. absurd (early_not_done _ s r.early is);
   front = λ files told. inl refl;
   kept = r.kept;
@@ -152,8 +153,8 @@ ended_stopped p words q old new before s e r = record {
   usage_only = λ is. absurd (early_not_usage _ s r.early is);
 }
   where
-    reads : (files : List File) → old.holds ≡ Some files → MayRefuse (λ f. RoseOrFull old.faults new.faults × Reached q files f) (IsPlan p q files (Err s)) s
-    reads files told = MayRefuse-read (Reached q files) (RoseOrFull old.faults new.faults) _ s r.read (r.refused files told)
+    reads : (files : List File) → old.holds ≡ Some files → MayRefuse (λ f. RoseOrFull old.faults new.faults × Reached a.query files f) (IsPlan p a.query files (Err s)) s
+    reads files told = MayRefuse-read (Reached a.query files) (RoseOrFull old.faults new.faults) _ s r.read (r.refused files told)
 
 -- want of memory may come where a run would end by any status
 ended_memory : (p : Predicates) (words : List (List ℕ)) (old new : Folder) (before now : Sink) (s : Status) → Ended p words old new before now s
@@ -216,20 +217,20 @@ by_either P s ended (inl e) h k = subst P (sym e) h
 by_either P s ended (inr e) h k = subst P (sym e) k
 
 -- a run of what the words ask for, and its line
-pub finished_noted : (p : Predicates) (words : List (List ℕ)) (q : Query) (old new : Folder) (before now noted_before noted_now : Sink) (s ended : Status)
-    → asked words ≡ Some q → Ended p words old new before now s → NotesOf (names_of q.tables) noted_before noted_now s ended
+pub finished_noted : (p : Predicates) (words : List (List ℕ)) (a : Request) (old new : Folder) (before now noted_before noted_now : Sink) (s ended : Status)
+    → asked words ≡ Some a → Ended p words old new before now s → NotesOf (names_of a.query.tables) noted_before noted_now s ended
     → Finished p words old new before now noted_before noted_now ended
-finished_noted p words q old new before now noted_before noted_now s ended e h n = record {
+finished_noted p words a old new before now noted_before noted_now s ended e h n = record {
   ended = by_either (λ (t : Status). Ended p words old new before now t) s ended n.either h (ended_memory p words old new before now s h);
   usage = λ none. absurd (never (sym none ∙ e));
   silent = n.silent;
   noted = λ other. subst (λ (names : List (List ℕ)). IsNoted noted_before noted_now (line_of names ended)) (sym names) (n.noted other);
 }
   where
-    never : ◌≡◌ {A = Option Query} None (Some q) → ⊥
+    never : ◌≡◌ {A = Option Request} None (Some a) → ⊥
     never f = cc
 
-    names : names_asked words ≡ names_of q.tables
+    names : names_asked words ≡ names_of a.query.tables
     names = rw e refl
 
 -- words out of form, or want of memory for them, and its line

@@ -3,30 +3,31 @@ use Rattle.std.specs.Prelude.{ℕ, Bool, not, ◌&&◌, ◌==◌, List, [], map,
 use Rattle.std.specs.Option.{option_map_or}
 use Rattle.command_line.specs.Form.{command}
 use Rattle.command_line.specs.declared.command.Command.{Command}
-use Rattle.command_line.specs.declared.command.Query.{Query as QueryWords}
 use Rattle.command_line.specs.declared.command.TableWord.{TableWord}
 use Rattle.command_line.specs.declared.command.Task.{Task}
 use Rattle.command_line.specs.declared.command.Task.TheVariants.{Query, Demo}
+use Rattle.eddyql.specs.Settings.{settings_of}
+use Rattle.eddyql.specs.declared.asking.Request.{Request}
 
 -- whether a command is run by one worker, without counts. No other is run yet
 abbrev pub is_run_yet : Command → Bool
 is_run_yet c = (c.workers == 1) && not c.tally
 
--- the script and tables of a task; the demo isn't run yet
-abbrev pub query_in : Task → Option QueryWords
-query_in (Query q) = Some q
-query_in (Demo rows) = None
+-- a script over tables, and how its statements are run; the demo isn't run yet
+abbrev pub request_in : Command → Task → Option Request
+request_in c (Query q) = Some record { query = q; settings = settings_of c }
+request_in c (Demo rows) = None
 
-abbrev pub query_asked : Command → Option QueryWords
-query_asked c = if is_run_yet c then query_in c.task else None
+abbrev pub request_of : Command → Option Request
+request_of c = if is_run_yet c then request_in c c.task else None
 
--- the script and tables that words ask for, where they are in form and are run yet
-unfoldable pub asked : List (List ℕ) → Option QueryWords
-asked words = option_and_then query_asked (command words)
+-- what words ask for, where they are in form and are run yet
+unfoldable pub asked : List (List ℕ) → Option Request
+asked words = option_and_then request_of (command words)
 
 -- the names of the tables, as they were given
 abbrev pub names_of : List TableWord → List (List ℕ)
 names_of tables = map (λ (t : TableWord). t.name) tables
 
 abbrev pub names_asked : List (List ℕ) → List (List ℕ)
-names_asked words = option_map_or (λ (q : QueryWords). names_of q.tables) (asked words) []
+names_asked words = option_map_or (λ (a : Request). names_of a.query.tables) (asked words) []

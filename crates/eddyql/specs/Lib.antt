@@ -1,6 +1,7 @@
 pub mod Stage
 pub mod Faults
 pub mod Steps
+pub mod Settings
 pub mod Asked
 pub mod Files
 pub mod Accesses

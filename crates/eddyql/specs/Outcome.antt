@@ -26,6 +26,7 @@ use Rattle.eddyql.specs.Faults.{script_status, bind_status}
 use Rattle.eddyql.specs.Files.{file_read, tables_read, catalogue_read}
 use Rattle.eddyql.specs.Accesses.{accesses_read}
 use Rattle.eddyql.specs.Steps.{AndThen, ComesTo, or_refuse, or_fault}
+use Rattle.eddyql.specs.declared.asking.Request.{Request}
 use Rattle.eddyql.specs.declared.plan.Plan.{Plan}
 use Rattle.eddyql.specs.declared.status.Status.{Status}
 use Rattle.eddyql.specs.declared.status.Status.TheVariants as status
@@ -91,7 +92,8 @@ text_of gives tables (block ∷ more) = block_text gives tables block ++ flat_ma
 abbrev pub IsOutcome : Predicates → List (List ℕ) → List File → Result (List ℕ) Status → Type 0
 IsOutcome p words files due =
     AndThen (ComesTo (or_refuse status.Usage (asked words)))
-    (λ q. AndThen (IsPlan p q files) (λ plan. ComesTo (Ok (text_of p.gives plan.catalogue.tables plan.blocks)))) due
+    (λ a. AndThen (IsPlan p a.query files)
+    (λ plan. ComesTo (Ok (text_of p.gives plan.catalogue.tables plan.blocks)))) due
 
 -- whether a file is one of these tables, and all tables before it are there and in form
 abbrev pub ReachedTable : List File → List TableWord → FileOf → Type 0
@@ -107,9 +109,9 @@ Reached q files (file.Table number) =
 
 -- the same of words
 pub record ReachedBy (words : List (List ℕ)) (files : List File) (f : FileOf) : Type 0 where
-  pub query : Query
-  pub in_form : asked words ≡ Some query
-  pub reached : Reached query files f
+  pub given : Request
+  pub in_form : asked words ≡ Some given
+  pub reached : Reached given.query files f
 
 -- the law that words over files have one outcome
 abbrev pub OneOutcome : Type 0

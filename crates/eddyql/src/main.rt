@@ -14,6 +14,7 @@ mod preparing;
 mod program;
 mod refusing;
 mod run;
+mod settings;
 mod status;
 
 use noting::put_note;

@@ -6,6 +6,7 @@ ghost use Rattle.command_line.specs.Within.{IsQuery};
 ghost use Rattle.sq_bind.specs.Condition.{calling};
 ghost use Rattle.sq_bind.specs.Given.{IsParsed, AreAccesses, over};
 ghost use Rattle.sq_expr.specs.Fits.{IsFit};
+ghost use Rattle.sq_expr.specs.Reach.{IsReachable};
 ghost use Rattle.eddyql.specs.Doing.{Went, Stopped, Refuses, IsParsedScript};
 ghost use Rattle.eddyql.specs.Outcome as spec;
 ghost use Rattle.eddyql.specs.Outcome.{predicates};
@@ -70,6 +71,7 @@ fn bind_one<P: Predicates>(
     ensures ok { let calls = calling (P.number_of functions.now) (P.kinds_of functions.now) in
         IfOk result (λ block. spec.IsBlock (over catalogue.now accesses.now calls) number statement.now (Ok block)) }
     ensures fits { IfOk result (IsFit (P.kinds_of functions.now) catalogue.now.tables) }
+    ensures reachable { IfOk result IsReachable }
     ensures refused { let calls = calling (P.number_of functions.now) (P.kinds_of functions.now) in
         IfErr result (λ s.
         Refuses (spec.IsBlock (over catalogue.now accesses.now calls) number statement.now (Err s)) s) }
@@ -94,6 +96,7 @@ fn bind_all<P: Predicates>(
         IfOk result (λ blocks.
         spec.AreBlocks (over catalogue.now accesses.now calls) 1 script.now.statements (Ok blocks)) }
     ensures fit { IfOk result (All (IsFit (P.kinds_of functions.now) catalogue.now.tables)) }
+    ensures reachable { IfOk result (All IsReachable) }
     ensures refused { let calls = calling (P.number_of functions.now) (P.kinds_of functions.now) in
         IfErr result (λ s.
         Refuses (spec.AreBlocks (over catalogue.now accesses.now calls) 1 script.now.statements (Err s)) s) }
@@ -124,6 +127,7 @@ fn plan_over<P: Predicates>(
     ensures ok { let p = predicates (P.number_of functions.now) (P.kinds_of functions.now) P.gives in
         IfOk result (λ plan. spec.IsBoundPlan p query.now script.now catalogue (Ok plan)) }
     ensures fit { IfOk result (λ plan. All (IsFit (P.kinds_of functions.now) plan.catalogue.tables) plan.blocks) }
+    ensures reachable { IfOk result (λ plan. All IsReachable plan.blocks) }
     ensures refused { let p = predicates (P.number_of functions.now) (P.kinds_of functions.now) P.gives in
         IfErr result (λ s. Refuses (spec.IsBoundPlan p query.now script.now catalogue (Err s)) s) }
 {
@@ -151,6 +155,7 @@ pub fn prepare<F: Folder, P: Predicates>(
         (folder_seen (F.holds folder.new) (F.faults folder.new))
         (λ files. spec.IsPlan p query.now files (Ok plan))) }
     ensures fit { IfOk result (λ plan. All (IsFit (P.kinds_of functions.now) plan.catalogue.tables) plan.blocks) }
+    ensures reachable { IfOk result (λ plan. All IsReachable plan.blocks) }
     ensures stopped { let p = predicates (P.number_of functions.now) (P.kinds_of functions.now) P.gives in
         IfErr result (λ s.
         Stopped (folder_seen (F.holds folder.old) (F.faults folder.old))

@@ -6,6 +6,7 @@ ghost use Rattle.outside.specs.Files.{File};
 ghost use Rattle.outside.specs.Faults.{NeverFalls, RoseOrFull};
 ghost use Rattle.outside.specs.Told.{Adds, AddsFront};
 ghost use Rattle.sq_expr.specs.Fits.{IsFit};
+ghost use Rattle.sq_expr.specs.Reach.{IsReachable};
 ghost use Rattle.command_line.specs.Within.{IsQuery};
 ghost use Rattle.eddyql.specs.Asked.{names_asked, names_of};
 ghost use Rattle.eddyql.specs.Asked as asking;
@@ -14,18 +15,19 @@ ghost use Rattle.eddyql.specs.Faults.{IsPlaced};
 ghost use Rattle.eddyql.specs.Note.{IsNoted, line_of};
 ghost use Rattle.eddyql.specs.Outcome.{IsOutcome, OneOutcome, ReachedBy, predicates, text_of};
 ghost use Rattle.eddyql.specs.Refusal.{UnlessReadOrMemory};
+ghost use Rattle.eddyql.specs.Settings.{AreSettings};
 ghost use Rattle.eddyql.specs.Run.{MayEnd, status_of, text_due, IsBeforeOutput};
 ghost use Rattle.eddyql.specs.Seen.{folder_seen, sink_seen};
 ghost use Rattle.eddyql.specs.declared.status.FileOf.{FileOf};
 ghost use Rattle.eddyql.specs.declared.status.Status.{Status as Ending};
 
 use crate::answering::put_answers;
-use crate::asking::asked;
+use crate::asking::{Request, asked};
 use crate::noting::put_note;
 use crate::plan::Plan;
 use crate::preparing::prepare;
+use crate::settings::Settings;
 use crate::status::Status;
-use command_line::Query;
 use outside::{Folder, Sink};
 use result_sink::WriteFault;
 use sq_value::Predicates;
@@ -35,16 +37,26 @@ use std::alloc::Global;
 fn run_plan<O: Sink, P: Predicates>(
     alloc: Global,
     plan: &Plan,
+    settings: &Settings,
     functions: &P,
     out: &mut O,
 ) -> Status
-    requires { All (IsFit (P.kinds_of functions.now) plan.now.catalogue.tables) plan.now.blocks }
+    requires fit { All (IsFit (P.kinds_of functions.now) plan.now.catalogue.tables) plan.now.blocks }
+    requires reachable { All IsReachable plan.now.blocks }
+    requires settings { AreSettings settings.now }
     ensures { Answered (sink_seen (O.written out.old) (O.faults out.old))
         (sink_seen (O.written out.new) (O.faults out.new))
         (text_of P.gives plan.now.catalogue.tables plan.now.blocks) result }
 {
     let blocks = plan.blocks.as_slice();
-    match put_answers(alloc, blocks, plan.catalogue.tables(), functions, out) {
+    match put_answers(
+        alloc,
+        blocks,
+        plan.catalogue.tables(),
+        settings,
+        functions,
+        out,
+    ) {
         Ok(()) => Status::Done,
         Err(WriteFault::Failed) => Status::Write,
         Err(WriteFault::Memory) => Status::Memory,
@@ -54,20 +66,21 @@ fn run_plan<O: Sink, P: Predicates>(
 // Runs what the words ask for.
 fn run_query<F: Folder, O: Sink, P: Predicates>(
     alloc: Global,
-    query: &Query,
+    request: &Request,
     folder: &mut F,
     out: &mut O,
     functions: &P,
 ) -> Status
-    requires { IsQuery query.now }
+    requires query { IsQuery request.now.query }
+    requires settings { AreSettings request.now.settings }
     ensures { let p = predicates (P.number_of functions.now) (P.kinds_of functions.now) P.gives in
-        (words : List (List ℕ)) → asking.asked words ≡ Some query.now
+        (words : List (List ℕ)) → asking.asked words ≡ Some request.now
         → Ended p words (folder_seen (F.holds folder.old) (F.faults folder.old))
         (folder_seen (F.holds folder.new) (F.faults folder.new)) (sink_seen (O.written out.old) (O.faults out.old))
         (sink_seen (O.written out.new) (O.faults out.new)) result }
 {
-    match prepare(alloc, query, folder, functions) {
-        Ok(plan) => run_plan(alloc, &plan, functions, out),
+    match prepare(alloc, &request.query, folder, functions) {
+        Ok(plan) => run_plan(alloc, &plan, &request.settings, functions, out),
         Err(refusal) => refusal,
     }
 }
@@ -75,22 +88,23 @@ fn run_query<F: Folder, O: Sink, P: Predicates>(
 // Runs what the words ask for, and says on the notes why it was refused.
 fn run_noted<F: Folder, O: Sink, N: Sink, P: Predicates>(
     alloc: Global,
-    query: &Query,
+    request: &Request,
     folder: &mut F,
     out: &mut O,
     notes: &mut N,
     functions: &P,
 ) -> Status
-    requires { IsQuery query.now }
+    requires query { IsQuery request.now.query }
+    requires settings { AreSettings request.now.settings }
     ensures { let p = predicates (P.number_of functions.now) (P.kinds_of functions.now) P.gives in
-        (words : List (List ℕ)) → asking.asked words ≡ Some query.now
+        (words : List (List ℕ)) → asking.asked words ≡ Some request.now
         → Finished p words (folder_seen (F.holds folder.old) (F.faults folder.old))
         (folder_seen (F.holds folder.new) (F.faults folder.new)) (sink_seen (O.written out.old) (O.faults out.old))
         (sink_seen (O.written out.new) (O.faults out.new)) (sink_seen (N.written notes.old) (N.faults notes.old))
         (sink_seen (N.written notes.new) (N.faults notes.new)) result }
 {
-    let status = run_query(alloc, query, folder, out, functions);
-    put_note(alloc, query.tables.as_slice(), status, notes)
+    let status = run_query(alloc, request, folder, out, functions);
+    put_note(alloc, request.query.tables.as_slice(), status, notes)
 }
 
 // Runs the words.
@@ -110,7 +124,7 @@ fn run_words<F: Folder, O: Sink, N: Sink, P: Predicates>(
     ensures untouched { asking.asked (map string_bytes words.now) ≡ None → folder.new ≡ folder.old }
 {
     match asked(alloc, words) {
-        Ok(query) => run_noted(alloc, &query, folder, out, notes, functions),
+        Ok(request) => run_noted(alloc, &request, folder, out, notes, functions),
         Err(refusal) => put_note(alloc, &[], refusal, notes),
     }
 }

@@ -3,6 +3,7 @@ use Rattle.std.specs.Prelude.{All}
 use Rattle.std.specs.List.{flat_map}
 use Rattle.std.proofs.lemmas.List.Elements.{All-head, All-tail}
 use Rattle.sq_expr.specs.Fits.{IsFit}
+use Rattle.sq_expr.specs.Reach.{IsReachable}
 use Rattle.sq_expr.specs.declared.block.Block.{Block}
 use Rattle.eddyql.specs.Outcome.{block_text, behind_line}
 use Rattle.eddyql.proofs.AnswerLemmas.{wrote_behind, wrote_front, wrote_through, wrote_nothing, wrote_is, wrote_text, text_of-none, text_of-more}
@@ -12,15 +13,23 @@ pub returns-in_default : goal.returns-in_default
 returns-in_default g c =
     wrote_text _ _ _ _ _ (sym (text_of-none g.P.Predicates.gives c.args.tables.now c.args.blocks.now c.in_default.ensures.cases)) (wrote_nothing _)
 
-pub put_answer-requires : goal.put_answer-requires
-put_answer-requires g c =
+pub put_answer-requires-clause-fits : goal.put_answer-requires-clause-fits
+put_answer-requires-clause-fits g c =
     All-head (IsFit (g.P.Predicates.kinds_of c.args.functions.now) c.args.tables.now) c.in-Some.first.now c.in-Some.more.now
-    (subst (λ (bs : List Block). All (IsFit (g.P.Predicates.kinds_of c.args.functions.now) c.args.tables.now) bs) c.in-Some.ensures.cases.0 c.requires)
+    (subst (λ (bs : List Block). All (IsFit (g.P.Predicates.kinds_of c.args.functions.now) c.args.tables.now) bs) c.in-Some.ensures.cases.0 c.requires.fit)
 
-pub put_more-requires : goal.put_more-requires
-put_more-requires g c =
+pub put_answer-requires-clause-reachable : goal.put_answer-requires-clause-reachable
+put_answer-requires-clause-reachable g c =
+    All-head IsReachable c.in-Some.first.now c.in-Some.more.now (subst (λ (bs : List Block). All IsReachable bs) c.in-Some.ensures.cases.0 c.requires.reachable)
+
+pub put_more-requires-clause-reachable : goal.put_more-requires-clause-reachable
+put_more-requires-clause-reachable g c =
+    All-tail IsReachable c.in-Some.first.now c.in-Some.more.now (subst (λ (bs : List Block). All IsReachable bs) c.in-Some.ensures.cases.0 c.requires.reachable)
+
+pub put_more-requires-clause-fit : goal.put_more-requires-clause-fit
+put_more-requires-clause-fit g c =
     All-tail (IsFit (g.P.Predicates.kinds_of c.args.functions.now) c.args.tables.now) c.in-Some.first.now c.in-Some.more.now
-    (subst (λ (bs : List Block). All (IsFit (g.P.Predicates.kinds_of c.args.functions.now) c.args.tables.now) bs) c.in-Some.ensures.cases.0 c.requires)
+    (subst (λ (bs : List Block). All (IsFit (g.P.Predicates.kinds_of c.args.functions.now) c.args.tables.now) bs) c.in-Some.ensures.cases.0 c.requires.fit)
 
 pub returns-in_err-put_answer : goal.returns-in_err-put_answer
 returns-in_err-put_answer g c =

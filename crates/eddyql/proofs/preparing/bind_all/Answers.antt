@@ -6,6 +6,7 @@ use Rattle.sq_bind.specs.Condition.{calling}
 use Rattle.sq_bind.specs.Given.{over}
 use Rattle.sq_bind.specs.Statement.{Scope}
 use Rattle.sq_expr.specs.Fits.{IsFit}
+use Rattle.sq_expr.specs.Reach.{IsReachable}
 use Rattle.sq_parse.specs.declared.tree.Statement.{Statement}
 use Rattle.eddyql.specs.Outcome.{AreBlocks}
 use Rattle.eddyql.proofs.DoingLemmas.{through, refuses_weaker}
@@ -16,7 +17,7 @@ use Rattle.eddyql.proofs.preparing.bind_all.Goals as goal
 pub loop-index-init : goal.loop-index-init
 loop-index-init g c =
     let none : c.new-blocks.result ≡ [] = c.new-blocks.ensures in
-    record { bound = blocks_are _ 1 _ _ _ (sym none) (blocks_none _ 1); fit = rw none (All-nil (IsFit (g.P.Predicates.kinds_of c.args.functions.now) c.args.catalogue.now.tables)) }
+    record { bound = blocks_are _ 1 _ _ _ (sym none) (blocks_none _ 1); fit = rw none (All-nil (IsFit (g.P.Predicates.kinds_of c.args.functions.now) c.args.catalogue.now.tables)); reachable = rw none (All-nil IsReachable) }
 
 pub returns-in_err-block-clause-refused : goal.returns-in_err-block-clause-refused
 returns-in_err-block-clause-refused g c =
@@ -35,6 +36,7 @@ loop-index-preserved g c =
           (blocks_next _ c.as_slice-statements.result.now c.loop-index.index c.index-statements-index.result c.loop-index.blocks c.in_ok-block.block c.loop-index-test.true
           c.index-statements-index.is c.loop-index.invariant.bound c.in_ok-block.ensures.ok);
       fit = All-same fits _ _ c.in-Ok.ensures.ok (All-push fits c.loop-index.blocks c.in_ok-block.block c.loop-index.invariant.fit c.in_ok-block.ensures.fits);
+      reachable = All-same IsReachable _ _ c.in-Ok.ensures.ok (All-push IsReachable c.loop-index.blocks c.in_ok-block.block c.loop-index.invariant.reachable c.in_ok-block.ensures.reachable);
     }
 
 pub returns-clause-ok : goal.returns-clause-ok
