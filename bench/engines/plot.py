@@ -19,18 +19,18 @@ def length(seconds, least, most):
     return (math.log10(max(seconds, least)) - math.log10(least)) / (math.log10(most) - math.log10(least)) * (RIGHT - LEFT)
 
 
-def plot(groups):
+def plot(engines, groups):
     """The SVG of groups: pairs of a workload's name and a list of pairs of an engine and its seconds, or None where it was late."""
     known = [seconds for _, bars in groups for _, seconds in bars if seconds]
     least = 10.0 ** math.floor(math.log10(min(known, default=0.1)))
     most = 10.0 ** math.ceil(math.log10(max(max(known, default=1.0), 10 * least)))
-    engines = list(dict.fromkeys(engine for _, bars in groups for engine, _ in bars))
     height = TOP + sum(len(bars) * BAR + GAP for _, bars in groups) + 24
     drawn = [f'<svg xmlns="http://www.w3.org/2000/svg" width="{RIGHT + 90}" height="{height}" font-family="sans-serif" font-size="10">',
              '<rect width="100%" height="100%" fill="white"/>', of_text(LEFT, 14, "processor seconds, from CSV to CSV", 'font-weight="bold"')]
     for i, engine in enumerate(engines):
-        drawn.append(f'<rect x="{LEFT + i * 95}" y="22" width="9" height="9" fill="{colour(engine)}"/>')
-        drawn.append(of_text(LEFT + i * 95 + 13, 30, engine))
+        x = LEFT + i * (RIGHT + 90 - LEFT) // len(engines)
+        drawn.append(f'<rect x="{x}" y="22" width="9" height="9" fill="{colour(engine)}"/>')
+        drawn.append(of_text(x + 13, 30, engine))
     power = least
     while power <= most * 1.001:
         x = LEFT + length(power, least, most)

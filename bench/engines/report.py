@@ -65,7 +65,7 @@ def put_into(page, said):
     groups = [(one["name"], [(engine, seconds_of(it)) for engine, it in one["engines"].items() if it["what"] in shown])
               for one in said["workloads"]]
     with open(os.path.join(os.path.dirname(page) or ".", name), "w", encoding="utf-8") as file:
-        file.write(plot.plot([it for it in groups if it[1]]))
+        file.write(plot.plot(said["engines"], [it for it in groups if it[1]]))
     text = ""
     if os.path.exists(page):
         with open(page, encoding="utf-8") as file:

@@ -100,7 +100,7 @@ def long_lists(rows):
 
 
 def star(rows):
-    side = max(rows // 500, 10)
+    side = max(rows // 500, 100)
 
     def sales(rng):
         return lines(range(rows), *(numbers(rng, rows, side) for _ in range(3)), numbers(rng, rows, 1000))
