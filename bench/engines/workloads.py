@@ -178,13 +178,17 @@ def drift(rows):
 
 
 def band(rows):
+    def spans(rng):
+        at = numbers(rng, rows, 1_000_000)
+        return lines(range(rows), [it - 10 for it in at], [it + 10 for it in at])
+
     def places(rng):
         return lines(range(rows), numbers(rng, rows, 1_000_000))
 
     return Workload(
-        "band", f"a band join of {rows:,} rows a side: numbers at most 10 apart",
-        [Table("points", ["id int", "at int"], places, rows), Table("marks", ["ref int", "due int"], places, rows)],
-        ["SELECT x.id, y.ref FROM points x JOIN marks y ON y.due BETWEEN x.at - 10 AND x.at + 10"],
+        "band", f"a band join of {rows:,} rows a side: numbers within spans of 21",
+        [Table("spans", ["id int", "low int", "high int"], spans, rows), Table("marks", ["ref int", "due int"], places, rows)],
+        ["SELECT x.id, y.ref FROM spans x JOIN marks y ON y.due BETWEEN x.low AND x.high"],
         index="CREATE INDEX due ON marks(due)")
 
 
