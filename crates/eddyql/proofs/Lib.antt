@@ -7,3 +7,4 @@ pub mod BindingLemmas
 pub mod AnswerLemmas
 pub mod OneOutcome
 pub mod RunLemmas
+pub mod ShippingLemmas
