@@ -8,3 +8,4 @@ pub mod ApartLemmas
 pub mod AnswerLemmas
 pub mod OneOutcome
 pub mod RunLemmas
+pub mod ShippingLemmas

@@ -12,3 +12,4 @@ pub mod Refusal
 pub mod Seen
 pub mod Doing
 pub mod Loaded
+pub mod Shipped

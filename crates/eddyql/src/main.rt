@@ -15,12 +15,13 @@ mod program;
 mod refusing;
 mod run;
 mod settings;
+mod shipping;
 mod status;
 
 use noting::put_note;
 use outside::{RealFolder, RealSink};
-use program::{all_words, code_for, program};
-use sq_value::NoPredicates;
+use program::{all_words, code_for};
+use shipping::program_as_shipped;
 use status::Status;
 use std::io;
 use std::process::ExitCode;
@@ -47,14 +48,7 @@ fn main(rt: HostRuntime) -> ExitCode {
         Ok(words) => {
             let mut folder = RealFolder::new(&rt);
             let mut out = RealSink::new(rt.stdout());
-            program(
-                rt.alloc(),
-                &words,
-                &mut folder,
-                &mut out,
-                &mut notes,
-                &NoPredicates,
-            )
+            program_as_shipped(rt.alloc(), &words, &mut folder, &mut out, &mut notes)
         }
         Err(error) => {
             let status = status_without_words(&error);

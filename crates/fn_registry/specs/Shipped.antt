@@ -1,17 +1,14 @@
 -- The predicates that the program ships: over integers, and Unknown where an argument is null.
 use Rattle.std.specs.Prelude.{ℕ, ◌+◌, ◌%◌, nat_lt, nat_le, Bool, true, false, ◌&&◌, ◌||◌, ◌==◌, ℤ, pos, negsuc, if◌then◌else◌}
+use Rattle.sq_value.specs.Comparison.{two_valued}
 use Rattle.sq_value.specs.declared.value.Value.{Value}
 use Rattle.sq_value.specs.declared.value.Value.TheVariants.{Int}
 use Rattle.sq_value.specs.declared.value.Truth.{Truth}
-use Rattle.sq_value.specs.declared.value.Truth.TheVariants.{True, False, Unknown}
-
--- the truth of a test
-abbrev pub truth_of : Bool → Truth
-truth_of holds = if holds then True else False
+use Rattle.sq_value.specs.declared.value.Truth.TheVariants.{Unknown}
 
 -- the truth of a test of two integers, and Unknown of other values
 abbrev pub on_integers : (ℤ → ℤ → Bool) → Value → Value → Truth
-on_integers test (Int m) (Int n) = truth_of (test m n)
+on_integers test (Int m) (Int n) = two_valued (test m n)
 on_integers test _ _ = Unknown
 
 -- how far an integer is from 0
@@ -51,8 +48,8 @@ same_sign = on_integers has_same_sign
 abbrev pub near10 : Value → Value → Truth
 near10 = on_integers is_near
 
-abbrev pub shipped : ℕ → Value → Value → Truth
-shipped number x y =
+abbrev pub shipped_gives : ℕ → Value → Value → Truth
+shipped_gives number x y =
     if number == 0 then divides x y
     else if number == 1 then same_sign x y
     else if number == 2 then near10 x y

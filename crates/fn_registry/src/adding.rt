@@ -1,7 +1,7 @@
 //! Adding predicates to those of a program.
 ghost use Rattle.std.specs.Prelude.{◌≡◌, ◌++◌, ◌∷◌, [], ◌≤◌, true, false, length, map, Err, OnOk, OnErr};
 ghost use Rattle.std.specs.List.{list_any};
-ghost use Rattle.fn_registry.specs.Registry.{has_name, has_number, is_taken};
+ghost use Rattle.fn_registry.specs.Registry.{is_taken};
 ghost use Rattle.fn_registry.specs.Registry as spec;
 ghost use Rattle.fn_registry.specs.Signatures.{signatures, stored};
 
@@ -15,7 +15,7 @@ use std::alloc::Global;
 const MAX_PREDICATES: usize = 32;
 
 fn has_name<const M: u32>(items: &[Registered<M>], name: &str) -> bool
-    ensures { result ≡ list_any (spec.has_name name.now) (map (λ r. r.signature) items.now) }
+    ensures { result ≡ list_any (spec.is_of_name name.now) (map (λ r. r.signature) items.now) }
 {
     match items {
         [item, rest @ ..] => {
@@ -26,7 +26,7 @@ fn has_name<const M: u32>(items: &[Registered<M>], name: &str) -> bool
 }
 
 fn has_number<const M: u32>(items: &[Registered<M>], number: u8) -> bool
-    ensures { result ≡ list_any (spec.has_number number) (map (λ r. r.signature) items.now) }
+    ensures { result ≡ list_any (spec.is_of_number number) (map (λ r. r.signature) items.now) }
 {
     match items {
         [item, rest @ ..] => item.signature.number == number || has_number(rest, number),

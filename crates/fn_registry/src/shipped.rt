@@ -2,16 +2,10 @@
 ghost use Rattle.std.specs.Prelude.{◌≡◌};
 ghost use Rattle.fn_registry.specs.Shipped as spec;
 
-use sq_value::{Truth, Value};
+use sq_value::{Truth, Value, two_valued};
 
 /// The meaning of the shipped predicates: `divides` is number 0, `same_sign` 1 and `near10` 2.
 pub const SHIPPED: u32 = 0;
-
-fn truth_of(holds: bool) -> Truth
-    ensures { result ≡ spec.truth_of holds }
-{
-    if holds { Truth::True } else { Truth::False }
-}
 
 fn is_divisor(x: i64, y: i64) -> bool
     ensures { result ≡ spec.is_divisor x y }
@@ -37,7 +31,7 @@ pub fn divides(x: &Value, y: &Value) -> Truth
     ensures { result ≡ spec.divides x.now y.now }
 {
     match (x, y) {
-        (Value::Int(x), Value::Int(y)) => truth_of(is_divisor(*x, *y)),
+        (Value::Int(x), Value::Int(y)) => two_valued(is_divisor(*x, *y)),
         _ => Truth::Unknown,
     }
 }
@@ -48,7 +42,7 @@ pub fn same_sign(x: &Value, y: &Value) -> Truth
     ensures { result ≡ spec.same_sign x.now y.now }
 {
     match (x, y) {
-        (Value::Int(x), Value::Int(y)) => truth_of(has_same_sign(*x, *y)),
+        (Value::Int(x), Value::Int(y)) => two_valued(has_same_sign(*x, *y)),
         _ => Truth::Unknown,
     }
 }
@@ -58,7 +52,7 @@ pub fn near10(x: &Value, y: &Value) -> Truth
     ensures { result ≡ spec.near10 x.now y.now }
 {
     match (x, y) {
-        (Value::Int(x), Value::Int(y)) => truth_of(is_near(*x, *y)),
+        (Value::Int(x), Value::Int(y)) => two_valued(is_near(*x, *y)),
         _ => Truth::Unknown,
     }
 }

@@ -1,0 +1,23 @@
+-- For the proofs: predicates with the signatures of the shipped ones are the shipped ones.
+use Rattle.std.proofs.Common.{◌≡◌, ℕ, List, Result, sym, subst}
+use Rattle.fn_registry.specs.Meaning.{gives_of}
+use Rattle.fn_registry.specs.Registry.{number_named, kinds_numbered}
+use Rattle.fn_registry.specs.ShippedSignatures.{shipped_signatures}
+use Rattle.fn_registry.specs.declared.signature.Signature.{Signature}
+use Rattle.outside.specs.Files.{File}
+use Rattle.eddyql.specs.Outcome.{IsOutcome, predicates}
+use Rattle.eddyql.specs.Shipped.{shipped_predicates}
+use Rattle.eddyql.specs.declared.status.Status.{Status}
+
+-- an outcome under the one is an outcome under the other
+pub shipped_outcome : (ss : List Signature) (words : List (List ℕ)) (files : List File) (due : Result (List ℕ) Status)
+    → ss ≡ shipped_signatures
+    → IsOutcome (predicates (number_named ss) (kinds_numbered ss) (gives_of 0)) words files due → IsOutcome shipped_predicates words files due
+shipped_outcome ss words files due same outcome =
+    subst (λ (l : List Signature). IsOutcome (predicates (number_named l) (kinds_numbered l) (gives_of 0)) words files due) same outcome
+
+pub outcome_shipped : (ss : List Signature) (words : List (List ℕ)) (files : List File) (due : Result (List ℕ) Status)
+    → ss ≡ shipped_signatures
+    → IsOutcome shipped_predicates words files due → IsOutcome (predicates (number_named ss) (kinds_numbered ss) (gives_of 0)) words files due
+outcome_shipped ss words files due same outcome =
+    subst (λ (l : List Signature). IsOutcome (predicates (number_named l) (kinds_numbered l) (gives_of 0)) words files due) (sym same) outcome

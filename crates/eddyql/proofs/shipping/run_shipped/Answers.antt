@@ -1,0 +1,21 @@
+use Rattle.std.proofs.Common.{rules, ◌≡◌, Ok, drop, map}
+use Rattle.std.specs.String.{string_bytes}
+use Rattle.fn_registry.specs.ShippedSignatures.{shipped_signatures}
+use Rattle.fn_registry.specs.Signatures.{signatures}
+use Rattle.eddyql.proofs.ShippingLemmas.{outcome_shipped, shipped_outcome}
+use Rattle.eddyql.proofs.shipping.run_shipped.Goals as goal
+
+pub returns-clause-done : goal.returns-clause-done
+returns-clause-done g c = λ zero files told.
+    let same : signatures c.put-3.new.functions ≡ shipped_signatures = search rules in
+    let ended = c.program.ensures.done zero files told in (
+      ended.0,
+      shipped_outcome (signatures c.put-3.new.functions) (drop 1 (map string_bytes c.args.words.now)) files (Ok ended.0) same ended.1,
+      ended.2,
+    )
+
+pub returns-clause-complete : goal.returns-clause-complete
+returns-clause-complete g c = λ files told calm quiet due outcome.
+    let same : signatures c.put-3.new.functions ≡ shipped_signatures = search rules in
+    c.program.ensures.complete files told calm quiet due
+    (outcome_shipped (signatures c.put-3.new.functions) (drop 1 (map string_bytes c.args.words.now)) files due same outcome)

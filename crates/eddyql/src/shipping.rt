@@ -1,0 +1,110 @@
+//! The program as it is shipped: with `divides`, `same_sign` and `near10` as its predicates.
+
+ghost use Rattle.std.specs.Prelude.{◌≡◌, ◌⊎◌, ◌++◌, ◌∷◌, [], ◌<◌, false, length, ℕ, List, Some, None, Result, Ok, IfOk, OnOk, map, drop};
+ghost use Rattle.std.specs.Process.{exit_status};
+ghost use Rattle.std.specs.String.{string_bytes};
+ghost use Rattle.outside.specs.Files.{File};
+ghost use Rattle.outside.specs.Faults.{RoseOrFull};
+ghost use Rattle.outside.specs.Told.{Adds};
+ghost use Rattle.fn_registry.specs.Registry.{is_taken};
+ghost use Rattle.fn_registry.specs.Signatures.{signatures};
+ghost use Rattle.eddyql.specs.Asked.{asked};
+ghost use Rattle.eddyql.specs.Outcome.{IsOutcome};
+ghost use Rattle.eddyql.specs.Run.{status_of};
+ghost use Rattle.eddyql.specs.Shipped.{shipped_predicates};
+ghost use Rattle.eddyql.specs.Stage.{stage_of, code_of};
+ghost use Rattle.eddyql.specs.declared.status.Status.{Status as Ending};
+
+use crate::noting::put_note;
+use crate::program::{code_for, program};
+use crate::status::Status;
+use fn_registry::{
+    AddFault, Functions, Registered, SHIPPED, ShippedFunctions, Stored, divides, near10, same_sign,
+};
+use outside::{Folder, Sink};
+use sq_value::{ColType, Kinds, Memory, SqText, Value};
+use std::alloc::Global;
+use std::process::ExitCode;
+
+/// Both arguments are integers.
+const INTEGERS: Kinds = Kinds {
+    first: ColType::Integer,
+    second: ColType::Integer,
+};
+
+// Adds a predicate whose name and number aren't there, where there is room.
+fn put<const M: u32>(functions: &mut Functions<M>, item: Registered<M>) -> Result<(), Memory>
+    requires room { length (signatures functions.old) < 32 }
+    requires fresh { is_taken (signatures functions.old) item.signature.name item.signature.number ≡ false }
+    ensures { OnOk result (signatures functions.new ≡ signatures functions.old ++ item.entry.signature ∷ []) }
+{
+    match functions.add(item) {
+        Ok(()) => Ok(()),
+        Err(AddFault::Memory) => Err(Memory),
+        Err(AddFault::RepeatedName | AddFault::Full) => unreachable!(),
+    }
+}
+
+// Registers the predicates, and runs the words over them.
+#[tactic(auto, unfolding(fn_registry::specs::Meaning::gives_of))]
+fn run_shipped<F: Folder, O: Sink, N: Sink>(
+    alloc: Global,
+    words: &[String],
+    folder: &mut F,
+    out: &mut O,
+    notes: &mut N,
+) -> Result<ExitCode, Memory>
+    ensures usage { asked (drop 1 (map string_bytes words.now)) ≡ None
+        → IfOk result (λ code. (exit_status code ≡ 2) ⊎ (exit_status code ≡ 9)) }
+    ensures done { IfOk result (λ code. exit_status code ≡ 0 → (files : List File) → F.holds folder.old ≡ Some files
+        → (text : List ℕ) × IsOutcome shipped_predicates (drop 1 (map string_bytes words.now)) files (Ok text)
+        × Adds (O.written out.old) (O.written out.new) text) }
+    ensures complete { IfOk result (λ code. (files : List File) → F.holds folder.old ≡ Some files
+        → ¬ (RoseOrFull (F.faults folder.old) (F.faults folder.new))
+        → ¬ (RoseOrFull (O.faults out.old) (O.faults out.new))
+        → (due : Result (List ℕ) Ending) → IsOutcome shipped_predicates (drop 1 (map string_bytes words.now)) files due
+        → (exit_status code ≡ code_of (stage_of (status_of due))) ⊎ (exit_status code ≡ 9)) }
+{
+    let mut functions: Functions<SHIPPED> = Functions::new(alloc);
+    let answer: Stored = Box::new(alloc, |x: &Value, y: &Value| divides(x, y))?;
+    let name = SqText::of(alloc, "divides")?;
+    put(&mut functions, Registered::new(name, 0, INTEGERS, answer))?;
+    let answer: Stored = Box::new(alloc, |x: &Value, y: &Value| same_sign(x, y))?;
+    let name = SqText::of(alloc, "same_sign")?;
+    put(&mut functions, Registered::new(name, 1, INTEGERS, answer))?;
+    let answer: Stored = Box::new(alloc, |x: &Value, y: &Value| near10(x, y))?;
+    let name = SqText::of(alloc, "near10")?;
+    put(&mut functions, Registered::new(name, 2, INTEGERS, answer))?;
+    let functions = ShippedFunctions(functions);
+    Ok(program(alloc, words, folder, out, notes, &functions))
+}
+
+/// Runs the words that the program was started with over the shipped predicates, and answers the
+/// code that it ends with: that of [`program`], or, where there is no memory for the predicates,
+/// that of want of memory, with its note.
+pub fn program_as_shipped<F: Folder, O: Sink, N: Sink>(
+    alloc: Global,
+    words: &[String],
+    folder: &mut F,
+    out: &mut O,
+    notes: &mut N,
+) -> ExitCode
+    ensures usage { asked (drop 1 (map string_bytes words.now)) ≡ None
+        → (exit_status result ≡ 2) ⊎ (exit_status result ≡ 9) }
+    ensures done { exit_status result ≡ 0 → (files : List File) → F.holds folder.old ≡ Some files
+        → (text : List ℕ) × IsOutcome shipped_predicates (drop 1 (map string_bytes words.now)) files (Ok text)
+        × Adds (O.written out.old) (O.written out.new) text }
+    ensures complete { (files : List File) → F.holds folder.old ≡ Some files
+        → ¬ (RoseOrFull (F.faults folder.old) (F.faults folder.new))
+        → ¬ (RoseOrFull (O.faults out.old) (O.faults out.new))
+        → (due : Result (List ℕ) Ending) → IsOutcome shipped_predicates (drop 1 (map string_bytes words.now)) files due
+        → (exit_status result ≡ code_of (stage_of (status_of due))) ⊎ (exit_status result ≡ 9) }
+{
+    match run_shipped(alloc, words, folder, out, notes) {
+        Ok(code) => code,
+        Err(Memory) => code_for(put_note(alloc, &[], Status::Memory, notes)),
+    }
+}
+
+#[cfg(test)]
+mod tests;

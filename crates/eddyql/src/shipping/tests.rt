@@ -1,0 +1,77 @@
+//! Scripts that call the shipped predicates, over memory. What is expected was worked out by hand.
+
+use super::*;
+use outside::{MemoryFolder, MemorySink};
+use std::test::Fail;
+
+// The script, the exit code, and what is written, or else noted. A slash stands for the end of a line.
+const CASES: &str = "\
+SELECT a.x, b.x FROM n a, n b WHERE divides(a.x, b.x)|0|x,x/1,1/1,2/1,3/2,2/3,3/
+SELECT a.x, b.x FROM n a, n b WHERE DIVIDES(a.x, b.x) AND a.x < b.x|0|x,x/1,2/1,3/
+SELECT a.x, b.x FROM n a, n b WHERE divide(a.x, b.x)|3|statement 1: unknown function at byte 36/
+SELECT a.x, b.x FROM n a, n b WHERE divides(a.x)|3|statement 1: wrong arguments at byte 36/
+SELECT id FROM cust WHERE divides(name, id)|3|statement 1: type mismatch at byte 34/
+SELECT oid FROM ord WHERE near10(cid, oid)|0|oid/10/11/12/
+SELECT oid FROM ord WHERE NOT near10(cid, oid)|0|oid/
+SELECT oid FROM ord WHERE (near10(cid, oid)) IS UNKNOWN|0|oid/13/
+SELECT oid FROM ord WHERE near10(NULL, oid) IS UNKNOWN|0|oid/10/11/12/13/
+SELECT oid FROM ord WHERE near10(oid, 22)|0|oid/12/13/
+SELECT x FROM n WHERE NOT divides(0, x)|0|x/1/2/3/
+SELECT x FROM n WHERE divides(x, 0)|0|x/1/2/3/
+SELECT x FROM n WHERE divides(-2, x)|0|x/2/
+SELECT x FROM n WHERE same_sign(x, -1)|0|x/
+SELECT x FROM n WHERE same_sign(2, x)|0|x/1/2/3/
+SELECT x, y FROM ends WHERE near10(x, y)|0|x,y/9223372036854775807,9223372036854775797/
+SELECT x, y FROM ends WHERE divides(x, y)|0|x,y/-1,-9223372036854775808/
+SELECT x, y FROM ends WHERE same_sign(x, y)|0|x,y/9223372036854775807,9223372036854775797/-1,-9223372036854775808/
+";
+
+fn folder_of(alloc: Global, script: &str) -> Result<MemoryFolder, Fail> {
+    let mut folder = MemoryFolder::new(alloc);
+    folder.keep("q", script.as_bytes())?;
+    folder.keep("n", b"x\n1\n2\n3\n")?;
+    folder.keep("cust", b"id,name\n1,Ada\n2,Bob\n3,\n")?;
+    folder.keep("ord", b"oid,cid,amt\n10,1,5\n11,1,7\n12,2,5\n13,,9\n")?;
+    folder.keep(
+        "ends",
+        b"x,y\n9223372036854775807,9223372036854775797\n-9223372036854775808,9223372036854775807\n\
+        -1,-9223372036854775808\n",
+    )?;
+    Ok(folder)
+}
+
+// Whether a script ends with this code, having written, or else noted, this text.
+fn ends_so(alloc: Global, script: &str, code: &str, told: &str) -> Result<bool, Fail> {
+    let mut words = Vec::new(alloc);
+    for word in ["eddyql", "q", "n=n", "cust=cust", "ord=ord", "ends=ends"] {
+        words.push(String::from_str(alloc, word)?)?;
+    }
+    let mut folder = folder_of(alloc, script)?;
+    let mut out = MemorySink::with_room(alloc, 999)?;
+    let mut notes = MemorySink::with_room(alloc, 999)?;
+    let ended = program_as_shipped(alloc, &words, &mut folder, &mut out, &mut notes);
+    let told = told.replace(alloc, "/", "\n")?;
+    let (said, silent) = if code == "0" {
+        (&out, &notes)
+    } else {
+        (&notes, &out)
+    };
+    Ok(
+        ended == ExitCode::from(code.parse().unwrap_or(u8::MAX))
+            && said.written() == told.as_bytes()
+            && silent.written().is_empty(),
+    )
+}
+
+#[test]
+fn calls_in_scripts(rt: HostRuntime) -> Result<(), Fail> {
+    for case in CASES.lines() {
+        let mut fields = case.split('|');
+        let script = fields.next().unwrap_or("");
+        let code = fields.next().unwrap_or("");
+        if !ends_so(rt.alloc(), script, code, fields.next().unwrap_or(""))? {
+            assert_eq!(rt; case, "");
+        }
+    }
+    Ok(())
+}
