@@ -19,3 +19,4 @@ mod PartLemmas
 mod OccursLemmas
 pub mod AnswerLemmas
 mod RepeatedLemmas
+mod PlaceLemmas

@@ -14,7 +14,7 @@ use Rattle.sq_parse.specs.declared.tree.ColRef.{ColRef}
 use Rattle.sq_expr.specs.declared.block.OutCol.{OutCol}
 use Rattle.sq_expr.specs.declared.cond.ColumnOf.{ColumnOf}
 use Rattle.sq_bind.specs.Visible.{Alias}
-use Rattle.sq_bind.specs.Statement.{candidates, sorted_column, is_same_column, column_of}
+use Rattle.sq_bind.specs.Statement.{candidates, sorted_column, column_of}
 use Rattle.sq_bind.specs.declared.output.Meant.{Meant}
 use Rattle.sq_bind.specs.declared.fault.BindFault.{BindFault}
 use Rattle.sq_bind.specs.Ordered.{is_at, meant_with, meant_after, meant_among, told, HoldsOutput}

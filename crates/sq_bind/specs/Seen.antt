@@ -1,16 +1,25 @@
--- Serves proofs: the program's aliases as the definitions see them, and whether a list has none, one or more.
-use Rattle.std.specs.Prelude.{ℕ, List, [], ◌∷◌, Result, Ok, Err}
+-- Serves proofs: aliases as definitions see them, the places of conjuncts, and whether a list has none, one or more.
+use Rattle.std.specs.Prelude.{ℕ, Bool, if◌then◌else◌, List, [], ◌∷◌, map, Result, Ok, Err}
 use Rattle.sq_bind.specs.Visible as spec
 use Rattle.sq_bind.specs.declared.visible.SeenAlias.{SeenAlias}
 use Rattle.sq_bind.specs.declared.visible.Resolved.{Resolved}
 use Rattle.sq_bind.specs.declared.visible.Found.{Found}
 use Rattle.sq_bind.specs.declared.visible.Found.TheVariants.{None, One, More}
+use Rattle.sq_bind.specs.declared.conjunct.Placed.{Placed}
 use Rattle.sq_bind.specs.declared.fault.BindFault.{BindFault}
 use Rattle.sq_bind.specs.declared.fault.BindFault.TheVariants.{UnknownColumn, AmbiguousColumn}
 
 -- an alias: its number, its name and its table's columns
 abbrev pub seen : SeenAlias → spec.Alias
 seen a = record { number = a.number; name = a.name.now; columns = a.table.now.columns }
+
+-- the places of conjuncts
+abbrev pub places_in : List Placed → List ℕ
+places_in placed = map (λ (p : Placed). p.at) placed
+
+-- those of a BETWEEN at a place: two, and one where it is denied
+abbrev pub between_places : ℕ → Bool → List ℕ
+between_places at denied = if denied then at ∷ [] else at ∷ at ∷ []
 
 -- whether some columns are none, one or more
 abbrev pub tally : List Resolved → Found

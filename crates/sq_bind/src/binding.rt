@@ -20,7 +20,7 @@ use crate::alias::aliases_of;
 use crate::block::{block_of, rest_fault};
 use crate::fault::BindFault;
 use crate::output::meanings_of;
-use crate::part::placed_of;
+use crate::part::{placed_of, places_of};
 use crate::reach::first_unreached;
 use crate::select::output_of;
 use crate::source::{from_fault, tables_of};
@@ -53,18 +53,19 @@ fn block_or_fault<F: Predicates>(
 {
     let output = output_of(alloc, aliases, &statement.items)?;
     let names = meanings_of(alloc, output.as_slice())?;
-    let placed = placed_of(alloc, functions, aliases, statement)?;
+    let places = places_of(alloc, statement)?;
     let fault = rest_fault(
         alloc,
         functions,
         aliases,
         statement,
         &names,
-        placed.as_slice(),
+        places.as_slice(),
     )?;
     if let Some(fault) = fault {
         return Err(fault);
     }
+    let placed = placed_of(alloc, functions, aliases, statement)?;
     let order = statement.order.as_slice();
     let block = block_of(
         alloc, accesses, found, aliases, order, &names, output, placed,

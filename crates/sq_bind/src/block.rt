@@ -7,7 +7,7 @@ ghost use Rattle.sq_bind.specs.Condition.{calling};
 ghost use Rattle.sq_bind.specs.Statement as spec;
 ghost use Rattle.sq_bind.specs.Found.{used_at, block_with};
 ghost use Rattle.sq_bind.specs.Ordered.{HoldsOutput};
-ghost use Rattle.sq_bind.specs.Seen.{seen};
+ghost use Rattle.sq_bind.specs.Seen.{seen, places_in};
 
 use crate::alias::uses_of;
 use crate::conjunct::Placed;
@@ -26,7 +26,7 @@ use sqlite_items::Items;
 use std::alloc::Global;
 
 /// The first fault of the select list, the conditions and ORDER BY, with what the names of the output
-/// columns mean and the conjuncts.
+/// columns mean and the places of the conjuncts.
 ///
 /// # Errors
 /// `Memory`: there is no memory for a name of ORDER BY.
@@ -36,19 +36,19 @@ pub fn rest_fault<F: Predicates>(
     aliases: &[SeenAlias<'_>],
     statement: &Statement,
     names: &IndexMap<String, Meant>,
-    placed: &[Placed],
+    places: &[u32],
 ) -> Result<Option<BindFault>, Memory>
     requires seen { length statement.now.sources ≤ length aliases.now }
     requires output { HoldsOutput names.now.entries (spec.output_of (map seen aliases.now) statement.now.items) }
-    requires placed { let calls = calling (F.number_of functions.now) (F.kinds_of functions.now) in
-        placed.now ≡ spec.placed_in calls (map seen aliases.now) statement.now }
+    requires places { let calls = calling (F.number_of functions.now) (F.kinds_of functions.now) in
+        places.now ≡ places_in (spec.placed_in calls (map seen aliases.now) statement.now) }
     ensures { let calls = calling (F.number_of functions.now) (F.kinds_of functions.now) in
         IfOk result (λ fault. fault ≡ first_of (spec.faults_among calls (map seen aliases.now) statement.now)) }
 {
     let selected = output_fault(aliases, &statement.items);
     let conditions = parts_fault(functions, aliases, statement);
     let order = order_fault(alloc, aliases, names, statement.order.as_slice())?;
-    let rest = sooner(conditions, sooner(extra_fault(placed), order));
+    let rest = sooner(conditions, sooner(extra_fault(places), order));
     Ok(sooner(selected, rest))
 }
 

@@ -6,7 +6,7 @@ ghost use Rattle.sq_bind.specs.Condition as spec;
 ghost use Rattle.sq_bind.specs.Condition.{Calls, calling, split_of, whole_in, conjuncts_in};
 ghost use Rattle.sq_parse.specs.declared.tree.Tree.TheVariants as parsed;
 ghost use Rattle.sq_bind.specs.Visible.{Alias};
-ghost use Rattle.sq_bind.specs.Seen.{seen};
+ghost use Rattle.sq_bind.specs.Seen.{seen, places_in, between_places};
 
 use crate::visible::SeenAlias;
 use crate::whole::{bounds_of, whole_of};
@@ -209,5 +209,85 @@ pub fn push_conjuncts<F: Predicates>(
             negated: _,
             truth: _,
         } => push_whole(alloc, functions, aliases, tree, placed),
+    }
+}
+
+// Puts the place of a condition that isn't split behind the others.
+fn push_whole_place(tree: &Tree, places: &mut Vec<u32>) -> Result<(), Memory>
+    ensures { (calls : Calls) (aliases : List Alias)
+        → OnOk result (places.new.items ≡ places.old.items ++ (split_of calls aliases tree.now).at ∷ []) }
+{
+    places.push(place_of(tree))?;
+    Ok(())
+}
+
+// Puts the places of a BETWEEN behind the others: two, and one where it is denied.
+fn push_between_places(at: u32, is_negated: bool, places: &mut Vec<u32>) -> Result<(), Memory>
+    ensures { OnOk result (places.new.items ≡ places.old.items ++ between_places at is_negated) }
+{
+    places.push(at)?;
+    if !is_negated {
+        places.push(at)?;
+    }
+    Ok(())
+}
+
+#[cycle(mark)]
+fn push_all_places(parts: &[Tree], places: &mut Vec<u32>) -> Result<(), Memory>
+    ensures { (calls : Calls) (aliases : List Alias) → OnOk result (places.new.items
+        ≡ places.old.items ++ places_in (flat_map (conjuncts_in calls aliases) parts.now)) }
+{
+    for part in parts {
+        push_places(part, places)?;
+    }
+    Ok(())
+}
+
+/// Puts the places of the conjuncts of a condition behind the others.
+///
+/// # Errors
+/// `Memory`: there is no memory for them. Some of them may stand behind the others then.
+#[cycle(mark)]
+pub fn push_places(tree: &Tree, places: &mut Vec<u32>) -> Result<(), Memory>
+    ensures { (calls : Calls) (aliases : List Alias) → OnOk result (places.new.items
+        ≡ places.old.items ++ places_in (conjuncts_in calls aliases tree.now)) }
+{
+    match tree {
+        Tree::Between {
+            at,
+            negated,
+            subject: _,
+            low: _,
+            high: _,
+        } => push_between_places(*at, *negated, places),
+        Tree::All(parts) => push_all_places(parts.as_slice(), places),
+        Tree::Compare {
+            at: _,
+            left: _,
+            cmp: _,
+            right: _,
+        } => push_whole_place(tree, places),
+        Tree::Within {
+            at: _,
+            negated: _,
+            subject: _,
+            items: _,
+        } => push_whole_place(tree, places),
+        Tree::IsNull {
+            at: _,
+            negated: _,
+            subject: _,
+        } => push_whole_place(tree, places),
+        Tree::Call {
+            function: _,
+            args: _,
+        } => push_whole_place(tree, places),
+        Tree::Not(_) => push_whole_place(tree, places),
+        Tree::Any(_) => push_whole_place(tree, places),
+        Tree::Is {
+            tree: _,
+            negated: _,
+            truth: _,
+        } => push_whole_place(tree, places),
     }
 }

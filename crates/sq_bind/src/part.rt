@@ -1,16 +1,18 @@
 //! The conditions of a statement: each of ON sees its own source and those to its left, and WHERE
 //! sees all.
 
-ghost use Rattle.std.specs.Prelude.{◌≡◌, ◌≤◌, ◌++◌, length, map, slice_get, IfOk, OnOk};
+ghost use Rattle.std.specs.Prelude.{◌≡◌, ◌≤◌, ◌++◌, List, length, map, IfOk, OnOk};
 ghost use Rattle.std.specs.List.{flat_map};
 ghost use Rattle.sq_bind.specs.Fault.{first_of};
-ghost use Rattle.sq_bind.specs.Condition.{calling, conjunct_faults, extra_faults};
+ghost use Rattle.sq_bind.specs.Condition.{Calls, calling, conjunct_faults};
+ghost use Rattle.sq_bind.specs.Visible.{Alias};
 ghost use Rattle.sq_bind.specs.Statement as spec;
 ghost use Rattle.sq_bind.specs.Statement.{part_conjuncts, part_faults};
-ghost use Rattle.sq_bind.specs.Seen.{seen};
+ghost use Rattle.sq_bind.specs.Seen.{seen, places_in};
+ghost use Rattle.sq_bind.specs.declared.conjunct.Placed.{Placed};
 
 use crate::condition::tree_fault;
-use crate::conjunct::{Placed, push_conjuncts};
+use crate::conjunct::{Placed, push_conjuncts, push_places};
 use crate::fault::{BindFault, sooner};
 use crate::visible::SeenAlias;
 use sq_parse::{Source, Statement, Tree};
@@ -129,12 +131,47 @@ pub fn parts_fault<F: Predicates>(
     )
 }
 
-/// The fault of the 49th conjunct.
-pub fn extra_fault(placed: &[Placed]) -> Option<BindFault>
-    ensures { result ≡ first_of (conjunct_faults placed.now) }
+fn push_seen_places(condition: &Option<Tree>, places: &mut Vec<u32>) -> Result<(), Memory>
+    ensures { (calls : Calls) (aliases : List Alias) → OnOk result (places.new.items
+        ≡ places.old.items ++ places_in (flat_map (part_conjuncts calls) (spec.part_seeing aliases condition.now))) }
 {
-    match placed.get(48) {
-        Some(extra) => Some(BindFault::TooManyConjuncts { at: extra.at }),
+    match condition {
+        Some(tree) => push_places(tree, places),
+        None => Ok(()),
+    }
+}
+
+fn push_join_places(sources: &[Source], places: &mut Vec<u32>) -> Result<(), Memory>
+    ensures { (calls : Calls) (aliases : List Alias) → OnOk result (places.new.items
+        ≡ places.old.items ++ places_in (flat_map (part_conjuncts calls) (spec.joins_from aliases 0 sources.now))) }
+{
+    for source in sources {
+        push_seen_places(&source.on, places)?;
+    }
+    Ok(())
+}
+
+/// The places of a statement's conjuncts. They are known before its conditions are bound, which takes
+/// more room than the statement itself where a side has too many terms.
+///
+/// # Errors
+/// `Memory`: there is no memory for them.
+pub fn places_of(alloc: Global, statement: &Statement) -> Result<Vec<u32>, Memory>
+    ensures { (calls : Calls) (aliases : List Alias)
+        → IfOk result (λ places. places.items ≡ places_in (spec.placed_in calls aliases statement.now)) }
+{
+    let mut places = Vec::new(alloc);
+    push_join_places(statement.sources.as_slice(), &mut places)?;
+    push_seen_places(&statement.condition, &mut places)?;
+    Ok(places)
+}
+
+/// The fault of the 49th conjunct, where the conjuncts have these places.
+pub fn extra_fault(places: &[u32]) -> Option<BindFault>
+    ensures { (placed : List Placed) → places.now ≡ places_in placed → result ≡ first_of (conjunct_faults placed) }
+{
+    match places.get(48) {
+        Some(at) => Some(BindFault::TooManyConjuncts { at: *at }),
         None => None,
     }
 }

@@ -1,4 +1,4 @@
-use Rattle.std.proofs.Common.{◌+◌, List, Option, map, drop, ap, ◌∙◌}
+use Rattle.std.proofs.Common.{◌+◌, Option, map, drop, ap, ◌∙◌}
 use Rattle.std.specs.List.{flat_map}
 use Rattle.sq_parse.specs.declared.tree.OrderItem.{OrderItem}
 use Rattle.sq_bind.specs.Fault.{sooner, first_of}
