@@ -1,0 +1,117 @@
+//! Random tables and statements, as lines of text.
+
+ghost use Rattle.std.specs.Prelude.{◌<◌};
+
+use std::alloc::Global;
+use std::test::Fail;
+
+/// How the three tables are reached by scans alone. `s0 1 s` would reach the first by a look-up too, and the second by
+/// one alone.
+pub const SCANS: &str = "s s s";
+
+/// The next pseudo-random number below a bound that isn't 0 (Knuth's MMIX generator).
+pub fn next(state: &mut u64, below: u64) -> u64
+    requires { 0 < below }
+    ensures { result < below }
+{
+    *state = state
+        .wrapping_mul(6364136223846793005)
+        .wrapping_add(1442695040888963407);
+    (*state >> 33) % below
+}
+
+// One of these words, which have a blank between.
+fn word<'a>(state: &mut u64, words: &'a str) -> &'a str {
+    let count = words.split(' ').count() as u64;
+    let place = if count == 0 {
+        0
+    } else {
+        next(state, count) as usize
+    };
+    words.split(' ').nth(place).unwrap_or("")
+}
+
+// A table of two integer columns, x and y, of small values and nulls.
+fn push_table(text: &mut String, state: &mut u64, name: &str) -> Result<(), Fail> {
+    text.push_str(name)?;
+    text.push_str(" x:int,y:int")?;
+    for _ in 0..next(state, 6) {
+        text.push_str("/")?;
+        text.push_str(word(state, "0 1 2 3 "))?;
+        text.push_str(",")?;
+        text.push_str(word(state, "0 1 2 3 "))?;
+    }
+    text.push_str("\n")?;
+    Ok(())
+}
+
+/// The lines of three small tables.
+pub fn tables(alloc: Global, state: &mut u64) -> Result<String, Fail> {
+    let mut text = String::new(alloc);
+    push_table(&mut text, state, "r")?;
+    push_table(&mut text, state, "s")?;
+    push_table(&mut text, state, "t")?;
+    Ok(text)
+}
+
+// A comparison of a column with a column, a literal or a sum.
+fn push_comparison(text: &mut String, state: &mut u64, columns: &str) -> Result<(), Fail> {
+    text.push_str(word(state, columns))?;
+    text.push_str(word(state, "= = = < <= > >="))?;
+    match next(state, 6) {
+        0 => text.push_str(word(state, "0 1 2 3"))?,
+        1 => {
+            text.push_str(word(state, columns))?;
+            text.push_str("+1")?;
+        }
+        _ => text.push_str(word(state, columns))?,
+    }
+    Ok(())
+}
+
+// A condition: a comparison, one of two, or one denied.
+fn push_condition(text: &mut String, state: &mut u64, columns: &str) -> Result<(), Fail> {
+    match next(state, 6) {
+        0 => {
+            text.push_str("(")?;
+            push_comparison(text, state, columns)?;
+            text.push_str(" OR ")?;
+            push_comparison(text, state, columns)?;
+            text.push_str(")")?;
+        }
+        1 => {
+            text.push_str("NOT ")?;
+            push_comparison(text, state, columns)?;
+        }
+        _ => push_comparison(text, state, columns)?,
+    }
+    Ok(())
+}
+
+/// A statement of one to three aliases, with at most four conditions.
+pub fn statement(alloc: Global, state: &mut u64) -> Result<String, Fail> {
+    let mut text = String::from_str(alloc, "SELECT a.x FROM ")?;
+    text.push_str(word(state, "r s t"))?;
+    text.push_str(" a")?;
+    let aliases = next(state, 4);
+    if aliases > 0 {
+        text.push_str(", ")?;
+        text.push_str(word(state, "r s t"))?;
+        text.push_str(" b")?;
+    }
+    if aliases > 2 {
+        text.push_str(", ")?;
+        text.push_str(word(state, "r s t"))?;
+        text.push_str(" c")?;
+    }
+    let columns = match aliases {
+        0 => "a.x a.y",
+        1 | 2 => "a.x a.y b.x b.y",
+        _ => "a.x a.y b.x b.y c.x c.y",
+    };
+    for place in 0..next(state, 5) {
+        text.push_str(if place == 0 { " WHERE " } else { " AND " })?;
+        push_condition(&mut text, state, columns)?;
+    }
+    Ok(text)
+}
