@@ -6,6 +6,8 @@ pub mod Asked
 pub mod Files
 pub mod Accesses
 pub mod Outcome
+pub mod Tally
+pub mod Lines
 pub mod Run
 pub mod Note
 pub mod Refusal
@@ -13,3 +15,5 @@ pub mod Seen
 pub mod Doing
 pub mod Loaded
 pub mod Shipped
+pub mod Answering
+pub mod Ending

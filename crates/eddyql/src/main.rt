@@ -17,6 +17,8 @@ mod run;
 mod settings;
 mod shipping;
 mod status;
+mod stopping;
+mod tallying;
 
 use noting::put_note;
 use outside::{RealFolder, RealSink};

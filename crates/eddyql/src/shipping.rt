@@ -9,6 +9,7 @@ ghost use Rattle.outside.specs.Told.{Adds};
 ghost use Rattle.fn_registry.specs.Registry.{is_taken};
 ghost use Rattle.fn_registry.specs.Signatures.{signatures};
 ghost use Rattle.eddyql.specs.Asked.{asked};
+ghost use Rattle.eddyql.specs.Lines.{MayFail};
 ghost use Rattle.eddyql.specs.Outcome.{IsOutcome};
 ghost use Rattle.eddyql.specs.Run.{status_of};
 ghost use Rattle.eddyql.specs.Shipped.{shipped_predicates};
@@ -61,7 +62,8 @@ fn run_shipped<F: Folder, O: Sink, N: Sink>(
         × Adds (O.written out.old) (O.written out.new) text) }
     ensures complete { IfOk result (λ code. (files : List File) → F.holds folder.old ≡ Some files
         → ¬ (RoseOrFull (F.faults folder.old) (F.faults folder.new))
-        → ¬ (RoseOrFull (O.faults out.old) (O.faults out.new))
+        → ¬ (MayFail (drop 1 (map string_bytes words.now)) (RoseOrFull (O.faults out.old) (O.faults out.new))
+        (RoseOrFull (N.faults notes.old) (N.faults notes.new)))
         → (due : Result (List ℕ) Ending) → IsOutcome shipped_predicates (drop 1 (map string_bytes words.now)) files due
         → (exit_status code ≡ code_of (stage_of (status_of due))) ⊎ (exit_status code ≡ 9)) }
 {
@@ -96,7 +98,8 @@ pub fn program_as_shipped<F: Folder, O: Sink, N: Sink>(
         × Adds (O.written out.old) (O.written out.new) text }
     ensures complete { (files : List File) → F.holds folder.old ≡ Some files
         → ¬ (RoseOrFull (F.faults folder.old) (F.faults folder.new))
-        → ¬ (RoseOrFull (O.faults out.old) (O.faults out.new))
+        → ¬ (MayFail (drop 1 (map string_bytes words.now)) (RoseOrFull (O.faults out.old) (O.faults out.new))
+        (RoseOrFull (N.faults notes.old) (N.faults notes.new)))
         → (due : Result (List ℕ) Ending) → IsOutcome shipped_predicates (drop 1 (map string_bytes words.now)) files due
         → (exit_status result ≡ code_of (stage_of (status_of due))) ⊎ (exit_status result ≡ 9) }
 {
