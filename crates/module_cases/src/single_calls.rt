@@ -1,13 +1,16 @@
 //! Scans, look-ups and marks worked out by hand.
 
-ghost use Rattle.module_cases.specs.Given.{IsGiven};
+ghost use Rattle.std.specs.Prelude.{◌≡◌, ◌<◌, true, length, IfOk};
+ghost use Rattle.sq_value.specs.Key.{rank_of_key};
+ghost use Rattle.module_cases.specs.Given.{IsGiven, IsModuleOf, HasNone};
 
 use crate::given::{accesses_of, block_of, catalogue_of};
 use crate::shown::push_part;
-use index_source::Lookup;
+use crate::tuples::use_of;
+use index_source::{Lookup, lookup_law};
 use scan_source::Scan;
 use sq_expr::Block;
-use sq_value::{Key, NoPredicates, Table, Tables};
+use sq_value::{Key, Memory, NoPredicates, Table, Tables};
 use std::alloc::Global;
 use std::test::Fail;
 use stem_module::{Bounce, Stem};
@@ -72,6 +75,50 @@ fn rows_of_keys_are_found(rt: HostRuntime) -> Result<(), Fail> {
     Ok(())
 }
 
+// Whether no row of an alias has a key in its look-up column.
+fn has_none(
+    alloc: Global,
+    block: &Block,
+    tables: &Tables,
+    alias: u8,
+    key: &Key<'_>,
+) -> Result<bool, Memory>
+    requires given { IsGiven tables.now block.now }
+    requires alias { alias < length block.now.aliases }
+    ensures { IfOk result (λ none. none ≡ true → HasNone block.now tables.now alias (rank_of_key key.now)) }
+{
+    lookup_law();
+    let item = use_of(block, alias);
+    let Some(column) = item.access.look_up else {
+        return Ok(false);
+    };
+    let lookup = Lookup::new(alloc, tables.get(item.table), column)?;
+    Ok(lookup.rows(key).is_empty())
+}
+
+// Asks for a key that no row has, and where it was asked for before sets its end mark.
+fn end_asked<'t>(
+    alloc: Global,
+    block: &Block,
+    tables: &Tables,
+    alias: u8,
+    stem: &mut Stem<'t, NoPredicates>,
+    key: Key<'t>,
+) -> Result<Bounce, Memory>
+    requires of { IsModuleOf block.now tables.now alias stem.old }
+    requires none { HasNone block.now tables.now alias (rank_of_key key) }
+{
+    let _block = block;
+    let _tables = tables;
+    let _alias = alias;
+    let met = stem.ask(alloc, key)?;
+    match met {
+        Bounce::Asked => stem.mark_end(&key),
+        _ => {}
+    }
+    Ok(met)
+}
+
 // What keys meet that are asked for one after another, of a module of alias 1, and how many marks there are then.
 fn asked(
     alloc: Global,
@@ -92,6 +139,26 @@ fn asked(
     Ok((met, stem.marks().len()))
 }
 
+// What a key that no row has meets: the first time, the second, after which its end mark is set, and the third.
+fn ended(
+    alloc: Global,
+    block: &Block,
+    tables: &Tables,
+    key: Key<'static>,
+) -> Result<Vec<Bounce>, Fail>
+    requires { IsGiven tables.now block.now }
+{
+    let mut met = Vec::new(alloc);
+    if block.aliases.len() < 2 || !has_none(alloc, block, tables, 1, &key)? {
+        return Ok(met);
+    }
+    let mut stem = Stem::new(alloc, block, tables, &NoPredicates, 1)?;
+    met.push(stem.ask(alloc, key)?)?;
+    met.push(end_asked(alloc, block, tables, 1, &mut stem, key)?)?;
+    met.push(stem.ask(alloc, key)?)?;
+    Ok(met)
+}
+
 #[test]
 fn keys_are_asked_for_once(rt: HostRuntime) -> Result<(), Fail> {
     let catalogue = catalogue_of(rt.alloc(), LOOKED_UP)?;
@@ -109,5 +176,30 @@ fn keys_are_asked_for_once(rt: HostRuntime) -> Result<(), Fail> {
     let wanted = [Bounce::Ask, Bounce::Asked, Bounce::Ask, Bounce::Asked];
     assert_eq!(rt; met.as_slice(), wanted.as_slice());
     assert_eq!(rt; marks, 2);
+    Ok(())
+}
+
+#[test]
+fn keys_are_ended(rt: HostRuntime) -> Result<(), Fail> {
+    let catalogue = catalogue_of(rt.alloc(), LOOKED_UP)?;
+    let accesses = accesses_of(rt.alloc(), "s 1")?;
+    let Some(block) = block_of(rt.alloc(), &catalogue, accesses.as_slice(), JOIN) else {
+        panic!(rt; "no block")
+    };
+    let met = ended(
+        rt.alloc(),
+        &block,
+        catalogue.tables(),
+        Key::Number(9_000_000),
+    )?;
+    let wanted = [Bounce::Ask, Bounce::Asked, Bounce::Complete];
+    assert_eq!(rt; met.as_slice(), wanted.as_slice());
+    let met = ended(
+        rt.alloc(),
+        &block,
+        catalogue.tables(),
+        Key::Number(1_000_000),
+    )?;
+    assert_eq!(rt; met.len(), 0);
     Ok(())
 }
