@@ -6,5 +6,7 @@ pub mod AccessLemmas
 pub mod BindingLemmas
 pub mod ApartLemmas
 pub mod AnswerLemmas
+pub mod TallyLemmas
 pub mod OneOutcome
+pub mod PlanLemmas
 pub mod RunLemmas

@@ -1,79 +1,60 @@
 -- How a run ends: by its plan, by its words, and on the notes.
-use Rattle.std.proofs.Common.{◌≡◌, ◌≢◌, ℕ, ◌≤◌, List, [], ◌∷◌, ◌++◌, map, Option, Some, None, Result, Ok, Err, refl, sym, ◌∙◌, ap, subst, ◌⊎◌, inl, inr, arith}
+use Rattle.std.proofs.Common.{◌≡◌, ◌≢◌, ℕ, ◌≤◌, Bool, true, false, List, [], ◌∷◌, ◌++◌, map, Option, Some, None, Result, Ok, Err, refl, sym, ◌∙◌, ap, subst, ◌⊎◌, inl, inr, arith}
 use Rattle.std.specs.Prelude.{IsSome, IfOk, OnOk, OnErr}
 use Rattle.outside.specs.Files.{File}
 use Rattle.outside.specs.Faults.{NeverFalls, RoseOrFull}
 use Rattle.outside.specs.Told.{Adds, AddsFront}
-use Rattle.outside.proofs.Laws.{AddsFront-whole, AddsFront-nothing}
+use Rattle.outside.proofs.Laws.{Adds-twice, AddsFront-whole, AddsFront-nothing, AddsFront-after, AddsFront-longer, RoseOrFull-earlier}
 use Rattle.result_sink.specs.declared.fault.WriteFault.{WriteFault}
 use Rattle.result_sink.specs.declared.fault.WriteFault.TheVariants as write
-use Rattle.command_line.specs.declared.command.Query.{Query}
 use Rattle.command_line.specs.declared.command.TableWord.{TableWord}
-use Rattle.sq_parse.specs.declared.tree.Script.{Script}
-use Rattle.catalogue.specs.Named.{NamedTables}
-use Rattle.eddyql.specs.Asked.{asked, names_of, names_asked}
-use Rattle.eddyql.specs.Doing.{Went, Stopped, Refuses, Wrote, Answered, Ended, Finished}
+use Rattle.sq_value.specs.Relation.{Relation}
+use Rattle.sq_value.specs.declared.value.Value.{Value}
+use Rattle.sq_value.specs.declared.value.Truth.{Truth}
+use Rattle.sq_expr.specs.declared.block.Block.{Block}
+use Rattle.eddyql.specs.Asked.{asked, names_of, names_asked, is_tallied}
+use Rattle.eddyql.specs.Answering.{Answers, Tallied, of_notes}
+use Rattle.eddyql.specs.Doing.{Went, Stopped, Refuses, Wrote}
+use Rattle.eddyql.specs.Ending.{Answered, AnsweredBy, Ended, EndedBy, NotedLines, Finished, stop_at, stop_of}
+use Rattle.eddyql.specs.Lines.{AllLines, SomeLines, PlanLines, MayFail}
 use Rattle.eddyql.specs.Faults.{IsPlaced}
-use Rattle.eddyql.specs.Files.{catalogue_read}
 use Rattle.eddyql.specs.Note.{IsNoted, NotesOf, line_of}
-use Rattle.eddyql.specs.Outcome.{IsOutcome, IsPlan, IsScript, IsBoundPlan, Predicates, Reached, ReachedBy, ReachedTable, text_of}
-use Rattle.eddyql.specs.Refusal.{MayRefuse, IsEarly}
+use Rattle.eddyql.specs.Outcome.{IsOutcome, IsPlan, Predicates, Reached, ReachedBy, text_of}
+use Rattle.eddyql.specs.Refusal.{MayRefuse, IsEarly, IsBetween}
 use Rattle.eddyql.specs.Run.{MayEnd, IsLate, IsBeforeOutput, status_of, text_due}
 use Rattle.eddyql.specs.Seen.{Folder, Sink}
-use Rattle.eddyql.specs.Steps.{AndThen, Behind, ComesTo, or_refuse}
 use Rattle.eddyql.specs.declared.asking.Request.{Request}
 use Rattle.eddyql.specs.declared.plan.Plan.{Plan}
+use Rattle.eddyql.specs.declared.run.End.{End}
+use Rattle.eddyql.specs.declared.run.End.TheVariants as end
 use Rattle.eddyql.specs.declared.status.FileOf.{FileOf}
 use Rattle.eddyql.specs.declared.status.FileOf.TheVariants as file
 use Rattle.eddyql.specs.declared.status.Status.{Status}
 use Rattle.eddyql.specs.declared.status.Status.TheVariants as status
+use Rattle.eddyql.specs.declared.status.Stage.{Stage}
+use Rattle.eddyql.specs.declared.status.Stage.TheVariants as stage
+use Rattle.eddyql.specs.declared.stopping.Stop.{Stop}
+use Rattle.eddyql.specs.declared.stopping.Stop.TheVariants as stop
+use Rattle.eddyql.specs.Stage.{stage_of}
+use Rattle.eddyql.specs.Tally.{AreLines}
+use Rattle.eddyql.proofs.AnswerLemmas.{wrote_nothing}
 use Rattle.eddyql.proofs.OneOutcome.{same_outcome}
-use Rattle.eddyql.proofs.StageLemmas.{MayEnd-early, MayEnd-late, ends_by_outcome, holds_anyway, early_not_done, early_not_write, early_not_usage, early_not_found, late_not, late_not_before, MayRefuse-read}
-
--- ---- the plan
-
--- a script that was refused
-pub plan_unscripted : (p : Predicates) (q : Query) (files : List File) (s : Status) → IsScript files q.script (Err s) → IsPlan p q files (Err s)
-unfolding IsPlan
-plan_unscripted p q files s h = (Err s, h, refl)
-
--- tables that were refused behind a script
-pub plan_untabled : (p : Predicates) (q : Query) (files : List File) (script : Script) (s : Status) → IsScript files q.script (Ok script)
-    → ComesTo (catalogue_read files q.tables) (Err s) → IsPlan p q files (Err s)
-unfolding IsPlan
-plan_untabled p q files script s h k = (Ok script, h, (Err s, k, refl))
-
--- what a script over a catalogue comes to
-pub plan_over : (p : Predicates) (q : Query) (files : List File) (script : Script) (catalogue : NamedTables) (due : Result Plan Status)
-    → IsScript files q.script (Ok script) → ComesTo (catalogue_read files q.tables) (Ok catalogue) → IsBoundPlan p q script catalogue due → IsPlan p q files due
-unfolding IsPlan
-plan_over p q files script catalogue due h k g = (Ok script, h, (Ok catalogue, k, g))
-
-pub reached_table : (q : Query) (files : List File) (script : Script) (f : FileOf) → IsScript files q.script (Ok script) → ReachedTable files q.tables f → Reached q files f
-reached_table q files script file.Script h k = absurd k
-reached_table q files script (file.Table n) h k = ((script, h), k)
-
-pub reached_script : (q : Query) (files : List File) (f : FileOf) → f ≡ file.Script → Reached q files f
-reached_script q files f e = subst (Reached q files) (sym e) tt
-
--- ---- the outcome
-
-pub outcome_unplanned : (p : Predicates) (words : List (List ℕ)) (files : List File) (a : Request) (s : Status) → asked words ≡ Some a
-    → IsPlan p a.query files (Err s) → IsOutcome p words files (Err s)
-outcome_unplanned p words files a s e h = (Ok a, sym (ap (or_refuse status.Usage) e), (Err s, h, refl))
-
-pub outcome_planned : (p : Predicates) (words : List (List ℕ)) (files : List File) (a : Request) (plan : Plan) → asked words ≡ Some a
-    → IsPlan p a.query files (Ok plan) → IsOutcome p words files (Ok (text_of p.gives plan.catalogue.tables plan.blocks))
-outcome_planned p words files a plan e h = (Ok a, sym (ap (or_refuse status.Usage) e), (Ok plan, h, refl))
-
-pub outcome_usage : (p : Predicates) (words : List (List ℕ)) (files : List File) → asked words ≡ None → IsOutcome p words files (Err status.Usage)
-outcome_usage p words files e = (Err status.Usage, sym (ap (or_refuse status.Usage) e), refl)
+use Rattle.eddyql.proofs.PlanLemmas.{outcome_unplanned, outcome_planned, outcome_usage}
+use Rattle.eddyql.proofs.TallyLemmas.{lines_none, tallied_output}
+use Rattle.eddyql.proofs.StageLemmas.{MayEnd-early, MayEnd-late, MayEnd-other, ends_by_outcome, holds_anyway, early_not_done, early_not_write, early_not_usage, early_not_found, late_not, late_not_before, MayRefuse-read}
 
 -- ---- the ends
 
+-- the end that a stop at the answers makes
+abbrev pub end_at : Stop → End
+end_at stop.Output = end.By status.Write
+end_at stop.Notes = end.ByNotes
+end_at stop.Memory = end.By status.Memory
+
 -- answers were written, or weren't
-pub answered_done : (old new : Sink) (text : List ℕ) → Wrote old new text {A = Unit {0}} (Ok tt) → Answered old new text status.Done
-answered_done old new text w = record {
+pub answered_done : (tally : Bool) (old new noted noting : Sink) (text : List ℕ) → Wrote old new text {A = Unit {0}} (Ok tt)
+    → AnsweredBy tally old new noted noting text (end.By status.Done)
+answered_done tally old new noted noting text w = record {
   counts = w.counts;
   done = λ e. w.ok;
   front = AddsFront-whole old.written new.written text w.ok;
@@ -81,8 +62,9 @@ answered_done old new text w = record {
   late = tt;
 }
 
-pub answered_write : (old new : Sink) (text : List ℕ) → Wrote old new text {A = Unit {0}} (Err write.Failed) → Answered old new text status.Write
-answered_write old new text w = record {
+pub answered_write : (tally : Bool) (old new noted noting : Sink) (text : List ℕ) → Wrote old new text {A = Unit {0}} (Err write.Failed)
+    → AnsweredBy tally old new noted noting text (end.By status.Write)
+answered_write tally old new noted noting text w = record {
   counts = w.counts;
   done = λ e. absurd cc;
   front = w.front;
@@ -90,8 +72,19 @@ answered_write old new text w = record {
   late = tt;
 }
 
-pub answered_memory : (old new : Sink) (text : List ℕ) → Wrote old new text {A = Unit {0}} (Err write.Memory) → Answered old new text status.Memory
-answered_memory old new text w = record {
+pub answered_notes : (tally : Bool) (old new noted noting : Sink) (text : List ℕ) → Wrote old new text {A = Unit {0}} (Err write.Memory)
+    → tally ≡ true → RoseOrFull noted.faults noting.faults → AnsweredBy tally old new noted noting text end.ByNotes
+answered_notes tally old new noted noting text w wanted rose = record {
+  counts = w.counts;
+  done = λ e. absurd cc;
+  front = w.front;
+  write = λ e. (wanted, rose);
+  late = tt;
+}
+
+pub answered_memory : (tally : Bool) (old new noted noting : Sink) (text : List ℕ) → Wrote old new text {A = Unit {0}} (Err write.Memory)
+    → AnsweredBy tally old new noted noting text (end.By status.Memory)
+answered_memory tally old new noted noting text w = record {
   counts = w.counts;
   done = λ e. absurd cc;
   front = w.front;
@@ -100,10 +93,10 @@ answered_memory old new text w = record {
 }
 
 -- a run whose plan was made ends by its answers
-pub ended_answered : (p : Predicates) (words : List (List ℕ)) (a : Request) (plan : Plan) (old new : Folder) (before now : Sink) (s : Status)
+pub ended_answered : (p : Predicates) (words : List (List ℕ)) (a : Request) (plan : Plan) (old new : Folder) (before now : Sink) (fault : Type 0) (s : Status)
     → asked words ≡ Some a → Went old new (λ files. IsPlan p a.query files (Ok plan))
-    → Answered before now (text_of p.gives plan.catalogue.tables plan.blocks) s → Ended p words old new before now s
-ended_answered p words a plan old new before now s e w put = record {
+    → Answered before now fault (text_of p.gives plan.catalogue.tables plan.blocks) s → Ended p words old new before now fault s
+ended_answered p words a plan old new before now fault s e w put = record {
   keeps = w.keeps;
   folder_counts = omega (arith, w.kept);
   out_counts = put.counts;
@@ -132,9 +125,9 @@ ended_answered p words a plan old new before now s e w put = record {
     placed _ h = absurd h
 
 -- a run whose plan was refused ends by that
-pub ended_stopped : (p : Predicates) (words : List (List ℕ)) (a : Request) (old new : Folder) (before : Sink) (s : Status) → asked words ≡ Some a
-    → Stopped old new (λ files. IsPlan p a.query files (Err s)) (Reached a.query) s → Ended p words old new before before s
-ended_stopped p words a old new before s e r = record {
+pub ended_stopped : (p : Predicates) (words : List (List ℕ)) (a : Request) (old new : Folder) (before : Sink) (fault : Type 0) (s : Status) → asked words ≡ Some a
+    → Stopped old new (λ files. IsPlan p a.query files (Err s)) (Reached a.query) s → Ended p words old new before before fault s
+ended_stopped p words a old new before fault s e r = record {
   keeps = r.keeps;
   folder_counts = r.counts;
   out_counts = omega arith;
@@ -156,10 +149,29 @@ ended_stopped p words a old new before s e r = record {
     reads : (files : List File) → old.holds ≡ Some files → MayRefuse (λ f. RoseOrFull old.faults new.faults × Reached a.query files f) (IsPlan p a.query files (Err s)) s
     reads files told = MayRefuse-read (Reached a.query files) (RoseOrFull old.faults new.faults) _ s r.read (r.refused files told)
 
+-- the same where a fault has another reason
+ended_by_other : (p : Predicates) (words : List (List ℕ)) (old new : Folder) (before now : Sink) (fault other : Type 0) (s : Status) → (fault → other)
+    → Ended p words old new before now fault s → Ended p words old new before now other s
+ended_by_other p words old new before now fault other s f h = record {
+  keeps = h.keeps;
+  folder_counts = h.folder_counts;
+  out_counts = h.out_counts;
+  ends = λ files told. MayEnd-other _ fault other (IsOutcome p words files) s f (h.ends files told);
+  done = h.done;
+  front = h.front;
+  kept = h.kept;
+  read = h.read;
+  write = λ is. f (h.write is);
+  not_found = h.not_found;
+  nothing = h.nothing;
+  placed = h.placed;
+  usage_only = h.usage_only;
+}
+
 -- want of memory may come where a run would end by any status
-ended_memory : (p : Predicates) (words : List (List ℕ)) (old new : Folder) (before now : Sink) (s : Status) → Ended p words old new before now s
-    → Ended p words old new before now status.Memory
-ended_memory p words old new before now s h = record {
+ended_memory : (p : Predicates) (words : List (List ℕ)) (old new : Folder) (before now : Sink) (fault : Type 0) (s : Status)
+    → Ended p words old new before now fault s → Ended p words old new before now fault status.Memory
+ended_memory p words old new before now fault s h = record {
   keeps = h.keeps;
   folder_counts = h.folder_counts;
   out_counts = h.out_counts;
@@ -176,8 +188,9 @@ ended_memory p words old new before now s h = record {
 }
 
 -- a run that touched nothing ends by its words, or for want of memory
-ended_usage : (p : Predicates) (words : List (List ℕ)) (old : Folder) (before : Sink) → asked words ≡ None → Ended p words old old before before status.Usage
-ended_usage p words old before e = record {
+ended_usage : (p : Predicates) (words : List (List ℕ)) (old : Folder) (before : Sink) (fault : Type 0) → asked words ≡ None
+    → Ended p words old old before before fault status.Usage
+ended_usage p words old before fault e = record {
   keeps = refl;
   folder_counts = omega arith;
   out_counts = omega arith;
@@ -193,8 +206,8 @@ ended_usage p words old before e = record {
   usage_only = λ is. e;
 }
 
-ended_early : (p : Predicates) (words : List (List ℕ)) (old : Folder) (before : Sink) → Ended p words old old before before status.Memory
-ended_early p words old before = record {
+ended_early : (p : Predicates) (words : List (List ℕ)) (old : Folder) (before : Sink) (fault : Type 0) → Ended p words old old before before fault status.Memory
+ended_early p words old before fault = record {
   keeps = refl;
   folder_counts = omega arith;
   out_counts = omega arith;
@@ -210,28 +223,205 @@ ended_early p words old before = record {
   usage_only = λ is. absurd cc;
 }
 
+-- ---- the lines of counts
+
+-- how the answers of a plan ended
+pub plan_done : (tally : Bool) (gives : ℕ → Value → Value → Truth) (tables : List Relation) (blocks : List Block) (text : List ℕ) (old new noted noting : Sink)
+    (r : Result (Unit {0}) Stop) (x : Unit {0}) → r ≡ Ok x → Answers tally gives tables 1 blocks text old new noted noting r
+    → AnsweredBy tally old new noted noting text (end.By status.Done) × Tallied tally gives tables 1 blocks noted noting (stop_of (end.By status.Done))
+plan_done tally gives tables blocks text old new noted noting r x e a =
+    let b : Answers tally gives tables 1 blocks text old new noted noting (Ok tt) =
+    subst (λ (q : Result (Unit {0}) Stop). Answers tally gives tables 1 blocks text old new noted noting q) e a in
+    (answered_done tally old new noted noting text b.out, b.notes)
+
+pub plan_stopped : (tally : Bool) (gives : ℕ → Value → Value → Truth) (tables : List Relation) (blocks : List Block) (text : List ℕ) (old new noted noting : Sink)
+    (r : Result (Unit {0}) Stop) (y : Stop) → r ≡ Err y → Answers tally gives tables 1 blocks text old new noted noting r
+    → AnsweredBy tally old new noted noting text (end_at y) × Tallied tally gives tables 1 blocks noted noting (stop_of (end_at y))
+plan_stopped tally gives tables blocks text old new noted noting r y e a = by y (subst (λ (q : Result (Unit {0}) Stop). Answers tally gives tables 1 blocks text old new noted noting q) e a)
+  where
+    by : (y : Stop) → Answers tally gives tables 1 blocks text old new noted noting (Err y)
+        → AnsweredBy tally old new noted noting text (end_at y) × Tallied tally gives tables 1 blocks noted noting (stop_of (end_at y))
+    by stop.Output b = (answered_write tally old new noted noting text b.out, tallied_output tally gives tables 1 blocks noted noting b.notes)
+    by stop.Notes b = (answered_notes tally old new noted noting text b.out (b.notes.wanted refl) (b.notes.put.failed refl), b.notes)
+    by stop.Memory b = (answered_memory tally old new noted noting text b.out, b.notes)
+
+ok_weaker : {P Q : Type 0} (r : Result (Unit {0}) Stop) → (P → Q) → OnOk r P → OnOk r Q
+ok_weaker (Ok x) f h = f h
+ok_weaker (Err e) f h = tt
+
+-- the lines of a plan that was run
+pub lines_answered : (p : Predicates) (words : List (List ℕ)) (a : Request) (plan : Plan) (old new : Folder) (noted noting : Sink) (e : End)
+    → asked words ≡ Some a → Went old new (λ files. IsPlan p a.query files (Ok plan))
+    → Tallied a.settings.tally p.gives plan.catalogue.tables 1 plan.blocks noted noting (stop_of e) → NotedLines p words old.holds noted noting e
+lines_answered p words a plan old new noted noting e is w h = record {
+  lines = h.lines;
+  some = which (is_tallied words) refl;
+  all = ok_weaker (stop_of e) (λ left. (lines, left)) h.all;
+  put = h.put;
+  kept = h.kept;
+  quiet = λ q. h.quiet (sym tally ∙ q);
+}
+  where
+    tally : is_tallied words ≡ a.settings.tally
+    tally = rw is refl
+
+    are : AreLines (is_tallied words) p.gives plan.catalogue.tables 1 h.finished h.lines
+    are = subst (λ (b : Bool). AreLines b p.gives plan.catalogue.tables 1 h.finished h.lines) (sym tally) h.are
+
+    lines : PlanLines p words old.holds h.lines
+    lines = record {
+      plan = plan;
+      planned = λ files told. record { request = a; in_form = is; plan_is = w.tells files told };
+      finished = h.finished;
+      left = h.left;
+      split = h.split;
+      are = are;
+    }
+
+    which : (b : Bool) → is_tallied words ≡ b → SomeLines p words old.holds h.lines
+    which true e = inr (e, lines)
+    which false e = inl (lines_none p.gives plan.catalogue.tables 1 h.finished h.lines
+        (subst (λ (b : Bool). AreLines b p.gives plan.catalogue.tables 1 h.finished h.lines) e are))
+
+-- no line was put, and the run isn't done
+pub lines_unput : (p : Predicates) (words : List (List ℕ)) (holds : Option (List File)) (told : Type 0) (noted : Sink) (s : Status) → IsEarly told s
+    → NotedLines p words holds noted noted (end.By s)
+lines_unput p words holds told noted s early = record {
+  lines = [];
+  some = inl refl;
+  all = no_ok (stage_of s) early.between;
+  put = no_stop (stage_of s);
+  kept = every_ok (stage_of s);
+  quiet = λ q. refl;
+}
+  where
+    no_ok : (st : Stage) → IsBetween st → OnOk (stop_at st) (AllLines p words holds [])
+    no_ok stage.Run h = absurd h
+    no_ok _ h = tt
+
+    no_stop : (st : Stage) → Wrote noted noted [] (of_notes (stop_at st))
+    no_stop stage.Run = wrote_nothing noted
+    no_stop _ = wrote_nothing noted
+
+    every_ok : (st : Stage) → OnOk (stop_at st) (noted.faults ≡ noted.faults)
+    every_ok stage.Run = refl
+    every_ok _ = tt
+
+-- how a run ended whose plan was run
+pub ended_by_answers : (p : Predicates) (words : List (List ℕ)) (a : Request) (plan : Plan) (old new : Folder) (before now noted noting : Sink) (e : End)
+    → asked words ≡ Some a → Went old new (λ files. IsPlan p a.query files (Ok plan))
+    → AnsweredBy a.settings.tally before now noted noting (text_of p.gives plan.catalogue.tables plan.blocks) e
+    → EndedBy p words old new before now noted noting e
+ended_by_answers p words a plan old new before now noted noting (end.By s) is w put =
+    ended_answered p words a plan old new before now (RoseOrFull before.faults now.faults) s is w put
+ended_by_answers p words a plan old new before now noted noting end.ByNotes is w put =
+    let tally : is_tallied words ≡ a.settings.tally = rw is refl in
+    ended_by_other p words old new before now ((a.settings.tally ≡ true) × RoseOrFull noted.faults noting.faults)
+    ((is_tallied words ≡ true) × RoseOrFull noted.faults noting.faults) status.Write (λ k. (tally ∙ k.0, k.1))
+    (ended_answered p words a plan old new before now ((a.settings.tally ≡ true) × RoseOrFull noted.faults noting.faults) status.Write is w put)
+
 -- ---- the notes
 
 by_either : (P : Status → Type 0) (s ended : Status) → (ended ≡ s) ⊎ (ended ≡ status.Memory) → P s → P status.Memory → P ended
 by_either P s ended (inl e) h k = subst P (sym e) h
 by_either P s ended (inr e) h k = subst P (sym e) k
 
+-- lines that were put whole
+lines_whole : (old new : Sink) (lines : List ℕ) (st : Stage) → Wrote old new lines (of_notes (stop_at st)) → Adds old.written new.written lines × NeverFalls old.faults new.faults
+lines_whole old new lines stage.Run w = (w.ok, w.counts)
+lines_whole old new lines _ w = (w.ok, w.counts)
+
+-- a note behind lines
+noted_behind : (old mid new : Sink) (lines line : List ℕ) → Adds old.written mid.written lines → NeverFalls old.faults mid.faults → IsNoted mid new line
+    → IsNoted old new (lines ++ line)
+noted_behind old mid new lines line put counts (inl h) = inl (Adds-twice old.written mid.written new.written lines line put h)
+noted_behind old mid new lines line put counts (inr h) =
+    inr (RoseOrFull-earlier old.faults mid.faults new.faults counts h.0, AddsFront-after old.written mid.written new.written lines line put h.1)
+
 -- a run of what the words ask for, and its line
-pub finished_noted : (p : Predicates) (words : List (List ℕ)) (a : Request) (old new : Folder) (before now noted_before noted_now : Sink) (s ended : Status)
-    → asked words ≡ Some a → Ended p words old new before now s → NotesOf (names_of a.query.tables) noted_before noted_now s ended
-    → Finished p words old new before now noted_before noted_now ended
-finished_noted p words a old new before now noted_before noted_now s ended e h n = record {
-  ended = by_either (λ (t : Status). Ended p words old new before now t) s ended n.either h (ended_memory p words old new before now s h);
-  usage = λ none. absurd (never (sym none ∙ e));
-  silent = n.silent;
-  noted = λ other. subst (λ (names : List (List ℕ)). IsNoted noted_before noted_now (line_of names ended)) (sym names) (n.noted other);
+pub finished_noted : (p : Predicates) (words : List (List ℕ)) (a : Request) (old new : Folder) (before now noted noting said : Sink) (s ended : Status)
+    → asked words ≡ Some a → EndedBy p words old new before now noted noting (end.By s) → NotedLines p words old.holds noted noting (end.By s)
+    → NotesOf (names_of a.query.tables) noting said s ended → Finished p words old new before now noted said ended
+finished_noted p words a old new before now noted noting said s ended is h l n = record {
+  ended = ended_by_other p words old new before now rose (MayFail words rose (RoseOrFull noted.faults said.faults)) ended (λ r. inl r)
+      (by_either (λ (t : Status). Ended p words old new before now rose t) s ended n.either h (ended_memory p words old new before now rose s h));
+  usage = λ none. absurd (never (sym none ∙ is));
+  tallied = λ e. (l.lines, on_done e l.all, subst (λ (x : Sink). Adds noted.written x.written l.lines) (sym (n.silent e)) whole.0);
+  kept = λ e. ap (λ (x : Sink). x.faults) (n.silent e) ∙ on_done e l.kept;
+  silent = λ e q. n.silent e ∙ l.quiet q;
+  noted_lines = λ other. (
+    l.lines,
+    l.some,
+    subst (λ (names : List (List ℕ)). IsNoted noted said (l.lines ++ line_of names ended)) (sym names)
+        (noted_behind noted noting said l.lines (line_of (names_of a.query.tables) ended) whole.0 whole.1 (n.noted other)),
+  );
+  cut = λ e calm. absurd (calm (h.write (written e n.either)));
+}
+  where
+    rose : Type 0
+    rose = RoseOrFull before.faults now.faults
+
+    whole : Adds noted.written noting.written l.lines × NeverFalls noted.faults noting.faults
+    whole = lines_whole noted noting l.lines (stage_of s) l.put
+
+    never : ◌≡◌ {A = Option Request} None (Some a) → ⊥
+    never f = cc
+
+    names : names_asked words ≡ names_of a.query.tables
+    names = rw is refl
+
+    done : (t : Status) → t ≡ status.Done → (t ≡ s) ⊎ (t ≡ status.Memory) → s ≡ status.Done
+    done t e (inl f) = sym f ∙ e
+    done t e (inr f) = let wrong : status.Memory ≡ status.Done = sym f ∙ e in absurd cc
+
+    written : ended ≡ status.Write → (ended ≡ s) ⊎ (ended ≡ status.Memory) → s ≡ status.Write
+    written e (inl f) = sym f ∙ e
+    written e (inr f) = let wrong : status.Memory ≡ status.Write = sym f ∙ e in absurd cc
+
+    on_done : {P : Type 0} → ended ≡ status.Done → OnOk (stop_at (stage_of s)) P → P
+    on_done {P = P} e k = subst (λ (t : Status). OnOk (stop_at (stage_of t)) P) (done ended e n.either) k
+
+-- a run that the notes stopped at a line of counts: nothing more is put to them
+pub finished_cut : (p : Predicates) (words : List (List ℕ)) (a : Request) (old new : Folder) (before now noted noting : Sink) → asked words ≡ Some a
+    → EndedBy p words old new before now noted noting end.ByNotes → NotedLines p words old.holds noted noting end.ByNotes
+    → Finished p words old new before now noted noting status.Write
+finished_cut p words a old new before now noted noting is h l = record {
+  ended = ended_by_other p words old new before now ((is_tallied words ≡ true) × RoseOrFull noted.faults noting.faults)
+      (MayFail words (RoseOrFull before.faults now.faults) (RoseOrFull noted.faults noting.faults)) status.Write (λ k. inr k) h;
+  usage = λ none. absurd (never (sym none ∙ is));
+  tallied = λ e. absurd cc;
+  kept = λ e. absurd cc;
+  silent = λ e. absurd cc;
+  noted_lines = λ other. (
+    l.lines,
+    l.some,
+    inr (
+      l.put.failed refl,
+      AddsFront-longer noted.written noting.written l.lines (line_of (names_asked words) status.Write) l.put.front,
+    ),
+  );
+  cut = λ e calm. (l.lines, l.some, l.put.front);
 }
   where
     never : ◌≡◌ {A = Option Request} None (Some a) → ⊥
     never f = cc
 
-    names : names_asked words ≡ names_of a.query.tables
-    names = rw e refl
+-- the same by an equal end
+pub finished_by : (p : Predicates) (words : List (List ℕ)) (a : Request) (old new : Folder) (before now noted noting said : Sink) (e : End) (s ended : Status)
+    (tables : List TableWord) → e ≡ end.By s → asked words ≡ Some a → EndedBy p words old new before now noted noting e
+    → NotedLines p words old.holds noted noting e → tables ≡ a.query.tables → NotesOf (names_of tables) noting said s ended
+    → Finished p words old new before now noted said ended
+finished_by p words a old new before now noted noting said e s ended tables f is h l same n =
+    finished_noted p words a old new before now noted noting said s ended is (subst (λ (x : End). EndedBy p words old new before now noted noting x) f h)
+    (subst (λ (x : End). NotedLines p words old.holds noted noting x) f l)
+    (subst (λ (ts : List TableWord). NotesOf (names_of ts) noting said s ended) same n)
+
+pub finished_by_notes : (p : Predicates) (words : List (List ℕ)) (a : Request) (old new : Folder) (before now noted noting : Sink) (e : End)
+    → e ≡ end.ByNotes → asked words ≡ Some a → EndedBy p words old new before now noted noting e → NotedLines p words old.holds noted noting e
+    → Finished p words old new before now noted noting status.Write
+finished_by_notes p words a old new before now noted noting e f is h l =
+    finished_cut p words a old new before now noted noting is (subst (λ (x : End). EndedBy p words old new before now noted noting x) f h)
+    (subst (λ (x : End). NotedLines p words old.holds noted noting x) f l)
 
 -- words out of form, or want of memory for them, and its line
 same_line : (names : List (List ℕ)) (s : Status) → (s ≡ status.Usage) ⊎ (s ≡ status.Memory) → line_of [] s ≡ line_of names s
@@ -239,39 +429,57 @@ unfolding line_of
 same_line names s (inl e) = rw e refl
 same_line names s (inr e) = rw e refl
 
-pub finished_usage : (p : Predicates) (words : List (List ℕ)) (old : Folder) (before noted_before noted_now : Sink) (s ended : Status)
-    → (s ≡ status.Memory) ⊎ ((s ≡ status.Usage) × (asked words ≡ None)) → NotesOf [] noted_before noted_now s ended
-    → Finished p words old old before before noted_before noted_now ended
-finished_usage p words old before noted_before noted_now s ended why n = record {
+pub finished_usage : (p : Predicates) (words : List (List ℕ)) (old : Folder) (before noted noting : Sink) (s ended : Status)
+    → (s ≡ status.Memory) ⊎ ((s ≡ status.Usage) × (asked words ≡ None)) → NotesOf [] noted noting s ended
+    → Finished p words old old before before noted noting ended
+finished_usage p words old before noted noting s ended why n = record {
   ended = ends why;
   usage = λ none. which why;
-  silent = n.silent;
-  noted = λ other. subst (λ (line : List ℕ). IsNoted noted_before noted_now line) (same_line (names_asked words) ended (which why)) (n.noted other);
+  tallied = λ e. absurd (not_done e (which why));
+  kept = λ e. absurd (not_done e (which why));
+  silent = λ e. absurd (not_done e (which why));
+  noted_lines = λ other. (
+    [],
+    inl refl,
+    subst (λ (line : List ℕ). IsNoted noted noting line) (same_line (names_asked words) ended (which why)) (n.noted other),
+  );
+  cut = λ e calm. absurd (not_write e (which why));
 }
   where
-    ends : (s ≡ status.Memory) ⊎ ((s ≡ status.Usage) × (asked words ≡ None)) → Ended p words old old before before ended
-    ends (inl e) = by_either (λ (t : Status). Ended p words old old before before t) s ended n.either
-        (subst (λ (t : Status). Ended p words old old before before t) (sym e) (ended_early p words old before)) (ended_early p words old before)
-    ends (inr h) = by_either (λ (t : Status). Ended p words old old before before t) s ended n.either
-        (subst (λ (t : Status). Ended p words old old before before t) (sym h.0) (ended_usage p words old before h.1)) (ended_early p words old before)
+    fault : Type 0
+    fault = MayFail words (RoseOrFull before.faults before.faults) (RoseOrFull noted.faults noting.faults)
+
+    ends : (s ≡ status.Memory) ⊎ ((s ≡ status.Usage) × (asked words ≡ None)) → Ended p words old old before before fault ended
+    ends (inl e) = by_either (λ (t : Status). Ended p words old old before before fault t) s ended n.either
+        (subst (λ (t : Status). Ended p words old old before before fault t) (sym e) (ended_early p words old before fault)) (ended_early p words old before fault)
+    ends (inr h) = by_either (λ (t : Status). Ended p words old old before before fault t) s ended n.either
+        (subst (λ (t : Status). Ended p words old old before before fault t) (sym h.0) (ended_usage p words old before fault h.1)) (ended_early p words old before fault)
 
     which : (s ≡ status.Memory) ⊎ ((s ≡ status.Usage) × (asked words ≡ None)) → (ended ≡ status.Usage) ⊎ (ended ≡ status.Memory)
     which (inl e) = elim n.either [ inl f ↦ inr (f ∙ e) | inr f ↦ inr f ]
     which (inr h) = elim n.either [ inl f ↦ inl (f ∙ h.0) | inr f ↦ inr f ]
 
+    not_done : ended ≡ status.Done → (ended ≡ status.Usage) ⊎ (ended ≡ status.Memory) → ⊥
+    not_done e (inl f) = let wrong : status.Usage ≡ status.Done = sym f ∙ e in cc
+    not_done e (inr f) = let wrong : status.Memory ≡ status.Done = sym f ∙ e in cc
+
+    not_write : ended ≡ status.Write → (ended ≡ status.Usage) ⊎ (ended ≡ status.Memory) → ⊥
+    not_write e (inl f) = let wrong : status.Usage ≡ status.Write = sym f ∙ e in cc
+    not_write e (inr f) = let wrong : status.Memory ≡ status.Write = sym f ∙ e in cc
+
 -- ---- beside the one outcome
 
-pub complete_of : (p : Predicates) (words : List (List ℕ)) (old new : Folder) (before now : Sink) (s : Status) → Ended p words old new before now s
-    → (files : List File) → old.holds ≡ Some files → ¬ (RoseOrFull old.faults new.faults) → ¬ (RoseOrFull before.faults now.faults)
+pub complete_of : (p : Predicates) (words : List (List ℕ)) (old new : Folder) (before now : Sink) (fault : Type 0) (s : Status) → Ended p words old new before now fault s
+    → (files : List File) → old.holds ≡ Some files → ¬ (RoseOrFull old.faults new.faults) → ¬ fault
     → (due : Result (List ℕ) Status) → IsOutcome p words files due → (s ≡ status_of due) ⊎ (s ≡ status.Memory)
-complete_of p words old new before now s h files told calm quiet due d =
-    ends_by_outcome (λ f. RoseOrFull old.faults new.faults × ReachedBy words files f) (RoseOrFull before.faults now.faults) (IsOutcome p words files) s (h.ends files told)
+complete_of p words old new before now fault s h files told calm quiet due d =
+    ends_by_outcome (λ f. RoseOrFull old.faults new.faults × ReachedBy words files f) fault (IsOutcome p words files) s (h.ends files told)
     (λ f k. calm k.0) quiet (same_outcome p words files) due d
 
-pub front_of : (p : Predicates) (words : List (List ℕ)) (old new : Folder) (before now : Sink) (s : Status) → Ended p words old new before now s
+pub front_of : (p : Predicates) (words : List (List ℕ)) (old new : Folder) (before now : Sink) (fault : Type 0) (s : Status) → Ended p words old new before now fault s
     → (files : List File) → old.holds ≡ Some files → (due : Result (List ℕ) Status) → IsOutcome p words files due
     → AddsFront before.written now.written (text_due due)
-front_of p words old new before now s h files told due d = by (h.front files told)
+front_of p words old new before now fault s h files told due d = by (h.front files told)
   where
     by : (now.written ≡ before.written) ⊎ ((text : List ℕ) × IsOutcome p words files (Ok text) × AddsFront before.written now.written text)
         → AddsFront before.written now.written (text_due due)

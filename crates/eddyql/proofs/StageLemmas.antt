@@ -87,6 +87,16 @@ MayEnd-late reads rises IsDue text s due late writes = by (file_unread s) refl
     by None f = at (stage_of s) refl late
     by (Some g) f = absurd (late_unread s g f late)
 
+-- a fault of the output may have another reason
+pub MayEnd-other : (reads : FileOf → Type 0) (writes other : Type 0) (IsDue : Result (List ℕ) Status → Type 0) (s : Status) → (writes → other)
+    → MayEnd reads writes IsDue s → MayEnd reads other IsDue s
+MayEnd-other reads writes other IsDue s f h = by (file_unread s) (stage_of s) h
+  where
+    by : (o : Option FileOf) (st : Stage) → MatchOption o (EndsAt st writes IsDue s) reads → MatchOption o (EndsAt st other IsDue s) reads
+    by (Some g) st h = h
+    by None stage.Output h = (f h.0, h.1)
+    by None _ h = h
+
 -- without a fault, a run ends by the one outcome's status or for want of memory
 pub ends_by_outcome : (reads : FileOf → Type 0) (writes : Type 0) (IsDue : Result (List ℕ) Status → Type 0) (s : Status) → MayEnd reads writes IsDue s
     → ((f : FileOf) → ¬ (reads f)) → ¬ writes → ((x y : Result (List ℕ) Status) → IsDue x → IsDue y → x ≡ y)

@@ -1,5 +1,5 @@
 -- What the words of the command line ask to be run.
-use Rattle.std.specs.Prelude.{ℕ, Bool, not, ◌&&◌, ◌==◌, List, [], map, Option, Some, None, option_and_then, if◌then◌else◌}
+use Rattle.std.specs.Prelude.{ℕ, Bool, false, ◌==◌, List, [], map, Option, Some, None, option_and_then, if◌then◌else◌}
 use Rattle.std.specs.Option.{option_map_or}
 use Rattle.command_line.specs.Form.{command}
 use Rattle.command_line.specs.declared.command.Command.{Command}
@@ -9,9 +9,9 @@ use Rattle.command_line.specs.declared.command.Task.TheVariants.{Query, Demo}
 use Rattle.eddyql.specs.Settings.{settings_of}
 use Rattle.eddyql.specs.declared.asking.Request.{Request}
 
--- whether a command is run by one worker, without counts. No other is run yet
+-- whether a command is run by one worker. No other is run yet
 abbrev pub is_run_yet : Command → Bool
-is_run_yet c = (c.workers == 1) && not c.tally
+is_run_yet c = c.workers == 1
 
 -- a script over tables, and how its statements are run; the demo isn't run yet
 abbrev pub request_in : Command → Task → Option Request
@@ -31,3 +31,7 @@ names_of tables = map (λ (t : TableWord). t.name) tables
 
 abbrev pub names_asked : List (List ℕ) → List (List ℕ)
 names_asked words = option_map_or (λ (a : Request). names_of a.query.tables) (asked words) []
+
+-- whether words ask for a line of counts for each statement
+abbrev pub is_tallied : List (List ℕ) → Bool
+is_tallied words = option_map_or (λ (a : Request). a.settings.tally) (asked words) false

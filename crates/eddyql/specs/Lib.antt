@@ -6,9 +6,13 @@ pub mod Asked
 pub mod Files
 pub mod Accesses
 pub mod Outcome
+pub mod Tally
+pub mod Lines
 pub mod Run
 pub mod Note
 pub mod Refusal
 pub mod Seen
 pub mod Doing
 pub mod Loaded
+pub mod Answering
+pub mod Ending

@@ -18,7 +18,7 @@ pub struct Request {
     pub settings: Settings,
 }
 
-// What a command asks for: one that wants several workers, counts or the demo isn't run yet.
+// What a command asks for: one that wants several workers, or the demo isn't run yet.
 fn request_of(command: Command) -> Option<Request>
     ensures { result ≡ spec.request_of command }
 {
@@ -30,13 +30,14 @@ fn request_of(command: Command) -> Option<Request>
         tally,
         task,
     } = command;
-    if workers != 1 || tally {
+    if workers != 1 {
         return None;
     }
     let settings = Settings {
         policy,
         seed,
         route,
+        tally,
     };
     match task {
         Task::Query(query) => Some(Request { query, settings }),

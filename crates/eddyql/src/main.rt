@@ -16,6 +16,8 @@ mod refusing;
 mod run;
 mod settings;
 mod status;
+mod stopping;
+mod tallying;
 
 use noting::put_note;
 use outside::{RealFolder, RealSink};

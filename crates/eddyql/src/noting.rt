@@ -292,3 +292,6 @@ pub fn put_note<N: Sink>(
     }
     put_refusal(alloc, tables, status, notes)
 }
+
+#[cfg(test)]
+mod tests;

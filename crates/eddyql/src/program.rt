@@ -9,6 +9,7 @@ ghost use Rattle.outside.specs.Files.{File};
 ghost use Rattle.outside.specs.Faults.{RoseOrFull};
 ghost use Rattle.outside.specs.Told.{Adds};
 ghost use Rattle.eddyql.specs.Asked.{asked};
+ghost use Rattle.eddyql.specs.Lines.{MayFail};
 ghost use Rattle.eddyql.specs.Outcome.{IsOutcome, predicates};
 ghost use Rattle.eddyql.specs.Run.{status_of};
 ghost use Rattle.eddyql.specs.Stage.{stage_of, code_of};
@@ -74,7 +75,8 @@ pub fn program<F: Folder, O: Sink, N: Sink, P: Predicates>(
     ensures complete { let p = predicates (P.number_of functions.now) (P.kinds_of functions.now) P.gives in
         (files : List File) → F.holds folder.old ≡ Some files
         → ¬ (RoseOrFull (F.faults folder.old) (F.faults folder.new))
-        → ¬ (RoseOrFull (O.faults out.old) (O.faults out.new))
+        → ¬ (MayFail (drop 1 (map string_bytes words.now)) (RoseOrFull (O.faults out.old) (O.faults out.new))
+        (RoseOrFull (N.faults notes.old) (N.faults notes.new)))
         → (due : Result (List ℕ) Ending) → IsOutcome p (drop 1 (map string_bytes words.now)) files due
         → (exit_status result ≡ code_of (stage_of (status_of due))) ⊎ (exit_status result ≡ 9) }
 {

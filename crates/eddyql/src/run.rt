@@ -1,6 +1,6 @@
 //! The top call: from words, files and an output to a status.
 
-ghost use Rattle.std.specs.Prelude.{◌≡◌, ◌≢◌, ◌⊎◌, ℕ, List, Some, None, Result, Ok, IsSome, All, map};
+ghost use Rattle.std.specs.Prelude.{◌≡◌, ◌≢◌, ◌⊎◌, ◌++◌, ℕ, false, List, Some, None, Result, Ok, IsSome, All, map};
 ghost use Rattle.std.specs.String.{string_bytes};
 ghost use Rattle.outside.specs.Files.{File};
 ghost use Rattle.outside.specs.Faults.{NeverFalls, RoseOrFull};
@@ -8,10 +8,12 @@ ghost use Rattle.outside.specs.Told.{Adds, AddsFront};
 ghost use Rattle.sq_expr.specs.Fits.{IsFit};
 ghost use Rattle.sq_expr.specs.Reach.{IsReachable};
 ghost use Rattle.command_line.specs.Within.{IsQuery};
-ghost use Rattle.eddyql.specs.Asked.{names_asked, names_of};
+ghost use Rattle.eddyql.specs.Asked.{names_asked, is_tallied};
 ghost use Rattle.eddyql.specs.Asked as asking;
-ghost use Rattle.eddyql.specs.Doing.{Wrote, Answered, Ended, Finished};
+ghost use Rattle.eddyql.specs.Answering.{Tallied};
+ghost use Rattle.eddyql.specs.Ending.{AnsweredBy, EndedBy, NotedLines, Finished, stop_of};
 ghost use Rattle.eddyql.specs.Faults.{IsPlaced};
+ghost use Rattle.eddyql.specs.Lines.{AllLines, SomeLines, MayFail};
 ghost use Rattle.eddyql.specs.Note.{IsNoted, line_of};
 ghost use Rattle.eddyql.specs.Outcome.{IsOutcome, OneOutcome, ReachedBy, predicates, text_of};
 ghost use Rattle.eddyql.specs.Refusal.{UnlessReadOrMemory};
@@ -28,60 +30,74 @@ use crate::plan::Plan;
 use crate::preparing::prepare;
 use crate::settings::Settings;
 use crate::status::Status;
+use crate::stopping::Stop;
 use outside::{Folder, Sink};
-use result_sink::WriteFault;
 use sq_value::Predicates;
 use std::alloc::Global;
 
-// Runs a plan and writes its answers.
-fn run_plan<O: Sink, P: Predicates>(
+// How a run ended but for its note: by a status, or by a fault of the notes, to which nothing more is
+// put.
+#[derive(Clone, Copy, Debug, PartialEq, Eq)]
+pub enum End {
+    By(Status),
+    ByNotes,
+}
+
+// Runs a plan, writes its answers, and puts its lines of counts.
+fn run_plan<O: Sink, N: Sink, P: Predicates>(
     alloc: Global,
     plan: &Plan,
     settings: &Settings,
     functions: &P,
     out: &mut O,
-) -> Status
+    notes: &mut N,
+) -> End
     requires fit { All (IsFit (P.kinds_of functions.now) plan.now.catalogue.tables) plan.now.blocks }
     requires reachable { All IsReachable plan.now.blocks }
     requires settings { AreSettings settings.now }
-    ensures { Answered (sink_seen (O.written out.old) (O.faults out.old))
-        (sink_seen (O.written out.new) (O.faults out.new))
+    ensures out { AnsweredBy settings.now.tally
+        (sink_seen (O.written out.old) (O.faults out.old)) (sink_seen (O.written out.new) (O.faults out.new))
+        (sink_seen (N.written notes.old) (N.faults notes.old)) (sink_seen (N.written notes.new) (N.faults notes.new))
         (text_of P.gives plan.now.catalogue.tables plan.now.blocks) result }
+    ensures notes { Tallied settings.now.tally P.gives plan.now.catalogue.tables 1 plan.now.blocks
+        (sink_seen (N.written notes.old) (N.faults notes.old)) (sink_seen (N.written notes.new) (N.faults notes.new))
+        (stop_of result) }
 {
     let blocks = plan.blocks.as_slice();
-    match put_answers(
-        alloc,
-        blocks,
-        plan.catalogue.tables(),
-        settings,
-        functions,
-        out,
-    ) {
-        Ok(()) => Status::Done,
-        Err(WriteFault::Failed) => Status::Write,
-        Err(WriteFault::Memory) => Status::Memory,
+    let tables = plan.catalogue.tables();
+    match put_answers(alloc, blocks, tables, settings, functions, out, notes) {
+        Ok(()) => End::By(Status::Done),
+        Err(Stop::Output) => End::By(Status::Write),
+        Err(Stop::Notes) => End::ByNotes,
+        Err(Stop::Memory) => End::By(Status::Memory),
     }
 }
 
 // Runs what the words ask for.
-fn run_query<F: Folder, O: Sink, P: Predicates>(
+fn run_query<F: Folder, O: Sink, N: Sink, P: Predicates>(
     alloc: Global,
     request: &Request,
     folder: &mut F,
     out: &mut O,
+    notes: &mut N,
     functions: &P,
-) -> Status
+) -> End
     requires query { IsQuery request.now.query }
     requires settings { AreSettings request.now.settings }
-    ensures { let p = predicates (P.number_of functions.now) (P.kinds_of functions.now) P.gives in
+    ensures ended { let p = predicates (P.number_of functions.now) (P.kinds_of functions.now) P.gives in
         (words : List (List ℕ)) → asking.asked words ≡ Some request.now
-        → Ended p words (folder_seen (F.holds folder.old) (F.faults folder.old))
+        → EndedBy p words (folder_seen (F.holds folder.old) (F.faults folder.old))
         (folder_seen (F.holds folder.new) (F.faults folder.new)) (sink_seen (O.written out.old) (O.faults out.old))
-        (sink_seen (O.written out.new) (O.faults out.new)) result }
+        (sink_seen (O.written out.new) (O.faults out.new)) (sink_seen (N.written notes.old) (N.faults notes.old))
+        (sink_seen (N.written notes.new) (N.faults notes.new)) result }
+    ensures lines { let p = predicates (P.number_of functions.now) (P.kinds_of functions.now) P.gives in
+        (words : List (List ℕ)) → asking.asked words ≡ Some request.now
+        → NotedLines p words (F.holds folder.old) (sink_seen (N.written notes.old) (N.faults notes.old))
+        (sink_seen (N.written notes.new) (N.faults notes.new)) result }
 {
     match prepare(alloc, &request.query, folder, functions) {
-        Ok(plan) => run_plan(alloc, &plan, &request.settings, functions, out),
-        Err(refusal) => refusal,
+        Ok(plan) => run_plan(alloc, &plan, &request.settings, functions, out, notes),
+        Err(refusal) => End::By(refusal),
     }
 }
 
@@ -103,8 +119,10 @@ fn run_noted<F: Folder, O: Sink, N: Sink, P: Predicates>(
         (sink_seen (O.written out.new) (O.faults out.new)) (sink_seen (N.written notes.old) (N.faults notes.old))
         (sink_seen (N.written notes.new) (N.faults notes.new)) result }
 {
-    let status = run_query(alloc, request, folder, out, functions);
-    put_note(alloc, request.query.tables.as_slice(), status, notes)
+    match run_query(alloc, request, folder, out, notes, functions) {
+        End::By(status) => put_note(alloc, request.query.tables.as_slice(), status, notes),
+        End::ByNotes => Status::Write,
+    }
 }
 
 // Runs the words.
@@ -162,7 +180,9 @@ pub fn run<F: Folder, O: Sink, N: Sink, P: Predicates>(
         (files : List File) → F.holds folder.old ≡ Some files
         → MayEnd (λ file. RoseOrFull (F.faults folder.old) (F.faults folder.new)
         × ReachedBy (map string_bytes words.now) files file)
-        (RoseOrFull (O.faults out.old) (O.faults out.new)) (IsOutcome p (map string_bytes words.now) files) result }
+        (MayFail (map string_bytes words.now) (RoseOrFull (O.faults out.old) (O.faults out.new))
+        (RoseOrFull (N.faults notes.old) (N.faults notes.new)))
+        (IsOutcome p (map string_bytes words.now) files) result }
     ensures usage_only { result ≡ Status.Usage → asking.asked (map string_bytes words.now) ≡ None }
     ensures usage { asking.asked (map string_bytes words.now) ≡ None
         → (result ≡ Status.Usage) ⊎ (result ≡ Status.Memory) }
@@ -171,14 +191,16 @@ pub fn run<F: Folder, O: Sink, N: Sink, P: Predicates>(
     ensures placed { IsPlaced result }
     ensures read { (file : FileOf) → result ≡ Status.Read file
         → RoseOrFull (F.faults folder.old) (F.faults folder.new) }
-    ensures write { result ≡ Status.Write → RoseOrFull (O.faults out.old) (O.faults out.new) }
+    ensures write { result ≡ Status.Write → MayFail (map string_bytes words.now)
+        (RoseOrFull (O.faults out.old) (O.faults out.new)) (RoseOrFull (N.faults notes.old) (N.faults notes.new)) }
     ensures not_found { (file : FileOf) → result ≡ Status.NotFound file → IsSome (F.holds folder.old) }
 
     // Without a fault the status is the outcome's, or want of memory.
     ensures complete { let p = predicates (P.number_of functions.now) (P.kinds_of functions.now) P.gives in
         (files : List File) → F.holds folder.old ≡ Some files
         → ¬ (RoseOrFull (F.faults folder.old) (F.faults folder.new))
-        → ¬ (RoseOrFull (O.faults out.old) (O.faults out.new))
+        → ¬ (MayFail (map string_bytes words.now) (RoseOrFull (O.faults out.old) (O.faults out.new))
+        (RoseOrFull (N.faults notes.old) (N.faults notes.new)))
         → (due : Result (List ℕ) Ending) → IsOutcome p (map string_bytes words.now) files due
         → (result ≡ status_of due) ⊎ (result ≡ Status.Memory) }
 
@@ -189,12 +211,28 @@ pub fn run<F: Folder, O: Sink, N: Sink, P: Predicates>(
         → (due : Result (List ℕ) Ending) → IsOutcome p (map string_bytes words.now) files due
         → AddsFront (O.written out.old) (O.written out.new) (text_due due) }
 
-    // One line says why a run was refused, and nothing is said of one that is done.
-    ensures noted { result ≢ Status.Done → IsNoted (sink_seen (N.written notes.old) (N.faults notes.old))
-        (sink_seen (N.written notes.new) (N.faults notes.new))
-        (line_of (names_asked (map string_bytes words.now)) result) }
-    ensures silent { result ≡ Status.Done → N.written notes.new ≡ N.written notes.old }
+    // Where lines of counts are wanted, one stands on the notes for each statement of a run that is done,
+    // right for its statement, and nothing else; else nothing is put to them.
+    ensures tallied { let p = predicates (P.number_of functions.now) (P.kinds_of functions.now) P.gives in
+        result ≡ Status.Done → (lines : List ℕ)
+        × AllLines p (map string_bytes words.now) (F.holds folder.old) lines
+        × Adds (N.written notes.old) (N.written notes.new) lines }
+    ensures silent { result ≡ Status.Done → is_tallied (map string_bytes words.now) ≡ false
+        → N.written notes.new ≡ N.written notes.old }
     ensures silent_count { result ≡ Status.Done → N.faults notes.new ≡ N.faults notes.old }
+
+    // Behind the lines of the finished statements one line says why a run was refused; but nothing is put behind
+    // a fault of the notes at a line of counts.
+    ensures noted { let p = predicates (P.number_of functions.now) (P.kinds_of functions.now) P.gives in
+        result ≢ Status.Done → (lines : List ℕ)
+        × SomeLines p (map string_bytes words.now) (F.holds folder.old) lines
+        × IsNoted (sink_seen (N.written notes.old) (N.faults notes.old))
+        (sink_seen (N.written notes.new) (N.faults notes.new))
+        (lines ++ line_of (names_asked (map string_bytes words.now)) result) }
+    ensures cut { let p = predicates (P.number_of functions.now) (P.kinds_of functions.now) P.gives in
+        result ≡ Status.Write → ¬ (RoseOrFull (O.faults out.old) (O.faults out.new)) → (lines : List ℕ)
+        × SomeLines p (map string_bytes words.now) (F.holds folder.old) lines
+        × AddsFront (N.written notes.old) (N.written notes.new) lines }
 {
     run_words(alloc, words, folder, out, notes, functions)
 }

@@ -7,12 +7,14 @@ use command_line::PolicyName;
 use route_policy::{AnyPolicy, Lottery, Pressure, RouteScript};
 use sq_value::SqText;
 
-/// The policy's name, the seed of the lottery, and the text of the route script.
+/// The policy's name, the seed of the lottery, the text of the route script, and whether a line of
+/// counts is wanted for each statement.
 #[derive(Debug, Drop)]
 pub struct Settings {
     pub policy: PolicyName,
     pub seed: u64,
     pub route: SqText,
+    pub tally: bool,
 }
 
 impl Settings {

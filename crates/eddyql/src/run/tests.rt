@@ -54,10 +54,6 @@ ord | SELECT oid FROM ord WHERE amt NOT IN (5, NULL) |  | 0 Done | oid/ | \n\
 ord | SELECT oid FROM ord ORDER BY cid DESC |  | 0 Done | oid/13/12/10/11/ | \n\
 ord | SELECT oid FROM ord ORDER BY cid DESC NULLS LAST |  | 0 Done | oid/12/10/11/13/ | \n\
 m | SELECT x FROM m WHERE x + 1 > x |  | 0 Done | x/9223372036854775807/ | \n\
---index ord.cid cust ord | SELECT name, amt FROM cust c, ord o WHERE c.id = o.cid |  | 0 Done | name,amt/Ada,5/Ada\
-    ,7/Bob,5/ | \n\
---lookup ord.cid cust ord | SELECT name, amt FROM cust c, ord o WHERE c.id = o.cid |  | 0 Done | name,amt/Ada,5/Ad\
-    a,7/Bob,5/ | \n\
 --policy pressure --seed 7 --route v0 cust ord | SELECT name, amt FROM cust c, ord o WHERE c.id = o.cid |  | 0 Don\
     e | name,amt/Ada,5/Ada,7/Bob,5/ | \n\
 n | SELECT x FROM n; SELECT x FROM n; |  | 0 Done | x/1/2/3//x/1/2/3/ | \n\
@@ -75,6 +71,40 @@ p | SELECT sku FROM p WHERE 4 * cost = -1 |  | 0 Done | sku/3/ | \n\
 p | SELECT cost FROM p ORDER BY cost |  | 0 Done | cost/-0.25/1.50/10.00/\"\"/ | \n\
 ";
 
+// Answers with a line of counts for each, and faults of the notes at such a line.
+const TALLIED: &str = "\
+! --tally q cust=cust ord=ord | SELECT name, amt FROM cust c, ord o WHERE c.id = o.cid ORDER BY amt DESC |  | 0 Do\
+    ne | name,amt/Ada,7/Ada,5/Bob,5/ | query 1: built 3,4 hops 3 looked 0/\n\
+! --tally --policy pressure q cust=cust ord=ord | SELECT name, amt FROM cust c, ord o WHERE c.id = o.cid ORDER BY \
+    amt DESC |  | 0 Done | name,amt/Ada,7/Ada,5/Bob,5/ | query 1: built 3,4 hops 3 looked 0/\n\
+! --tally --policy script --route b,v0 q cust=cust ord=ord | SELECT name, amt FROM cust c, ord o WHERE c.id = o.ci\
+    d ORDER BY amt DESC |  | 0 Done | name,amt/Ada,7/Ada,5/Bob,5/ | query 1: built 3,4 hops 3 looked 0/\n\
+! --tally q ord=ord | SELECT o.oid FROM ord o, ord p WHERE o.cid = p.cid AND o.oid <= p.oid |  | 0 Done | oid/10/1\
+    0/11/12/ | query 1: built 4,4 hops 4 looked 0/\n\
+! --tally --policy script --route s0 q n=n | SELECT x FROM n; SELECT x FROM n WHERE x = 2 |  | 0 Done | x/1/2/3//x\
+    /2/ | query 1: built 3 hops 2 looked 0/query 2: built 1 hops 3 looked 0/\n\
+! --tally --policy script --route b q n=n | SELECT x FROM n WHERE x = 2 |  | 0 Done | x/2/ | query 1: built 3 hops \
+    3 looked 0/\n\
+! --tally q cust=cust ord=ord | SELECT name, amt FROM cust c, ord o WHERE c.id = o.cid ORDER BY amt DESC | note 3 \
+    | 6 Write | name,amt/Ada,7/Ada,5/Bob,5/ | que\n\
+! --tally q n=n | SELECT x FROM n; SELECT x FROM n | note 45 | 6 Write | x/1/2/3//x/1/2/3/ | query 1: built 3 hops \
+    2 looked 0/query 2: bui\n\
+! --tally q n=n | SELECT x FROM n; SELECT x FROM n | put 5 0 | 6 Write | x/1/2/3/ | query 1: built 3 hops 2 looked \
+    0/write fault/\n\
+! --tally q n=n | SELECT x FROM n; SELECT y FROM n |  | 3 Bind { statement: 2, fault: UnknownColumn { at: 24 } } |  \
+    | statement 2: unknown column at byte 24/\n\
+";
+
+// Answers over tables with a look-up.
+const LOOKED_UP: &str = "\
+--index ord.cid cust ord | SELECT name, amt FROM cust c, ord o WHERE c.id = o.cid |  | 0 Done | name,amt/Ada,5/Ada\
+    ,7/Bob,5/ | \n\
+--lookup ord.cid cust ord | SELECT name, amt FROM cust c, ord o WHERE c.id = o.cid |  | 0 Done | name,amt/Ada,5/Ad\
+    a,7/Bob,5/ | \n\
+! --lookup ord.cid --tally q cust=cust ord=ord | SELECT name, amt FROM cust c, ord o WHERE c.id = o.cid |  | 0 Done \
+    | name,amt/Ada,5/Ada,7/Bob,5/ | query 1: built 3,3 hops 3 looked 3/\n\
+";
+
 // Refusals, each with its note.
 const REFUSED: &str = "\
 ! |  |  | 2 Usage |  | usage: eddyql [OPTIONS] SCRIPT NAME=FILE.. or eddyql [OPTIONS] --demo ROWS/\n\
@@ -82,8 +112,6 @@ const REFUSED: &str = "\
     ONS] --demo ROWS/\n\
 ! --workers 2 q n=n | SELECT x FROM n |  | 2 Usage |  | usage: eddyql [OPTIONS] SCRIPT NAME=FILE.. or eddyql [OPTI\
     ONS] --demo ROWS/\n\
-! --tally q n=n | SELECT x FROM n |  | 2 Usage |  | usage: eddyql [OPTIONS] SCRIPT NAME=FILE.. or eddyql [OPTIONS\
-    ] --demo ROWS/\n\
 ! --demo 1000 |  |  | 2 Usage |  | usage: eddyql [OPTIONS] SCRIPT NAME=FILE.. or eddyql [OPTIONS] --demo ROWS/\n\
 ! q n=n N=n | SELECT x FROM n |  | 2 Usage |  | usage: eddyql [OPTIONS] SCRIPT NAME=FILE.. or eddyql [OPTIONS] --d\
     emo ROWS/\n\
@@ -280,7 +308,7 @@ fn told(alloc: Global, case: Case<'_>) -> Result<bool, Fail> {
 
 #[test]
 fn runs_end_as_they_must(rt: HostRuntime) -> Result<(), Fail> {
-    for cases in [DONE, REFUSED] {
+    for cases in [DONE, TALLIED, REFUSED, LOOKED_UP] {
         for line in cases.lines() {
             if !told(rt.alloc(), case_of(line))? {
                 assert_eq!(rt; line, "");

@@ -1,11 +1,11 @@
-use Rattle.eddyql.proofs.AnswerLemmas.{apart_found, answer_sorted}
+use Rattle.eddyql.proofs.AnswerLemmas.{apart_found, answer_found}
 use Rattle.eddyql.proofs.answering.answer_of.Goals as goal
 
 pub in_order-requires-clause-apart : goal.in_order-requires-clause-apart
 in_order-requires-clause-apart g c =
-    apart_found g.P.Predicates.gives c.args.block.now c.args.tables.now c.in_ok-answered.answered.combos.items c.in_ok-answered.ensures.recorded.bag
+    apart_found g.P.Predicates.gives c.args.block.now c.args.tables.now c.in_ok-found.found.combos.items c.in_ok-found.ensures.bag
 
-pub returns : goal.returns
-returns g c =
-    answer_sorted (λ v. v.items) c.in_order.result g.P.Predicates.gives c.args.block.now c.args.tables.now c.in_ok-answered.answered.combos.items c.in_ok-answered.ensures.recorded.bag
-    c.in_order.ensures.permutation c.in_order.ensures.rises
+pub returns-clause-rows : goal.returns-clause-rows
+returns-clause-rows g c =
+    answer_found g.P.Predicates.gives c.args.block.now c.args.tables.now c.in_ok-found.found.combos.items c.in_ok-combos.combos.items c.in_ok-found.ensures.bag
+    c.in_ok-combos.ensures.permutation c.in_ok-combos.ensures.rises

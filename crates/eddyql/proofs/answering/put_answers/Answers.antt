@@ -1,17 +1,14 @@
 use Rattle.std.proofs.Common.{◌≡◌, List, [], ◌∷◌, subst, sym}
 use Rattle.std.specs.Prelude.{All}
-use Rattle.std.specs.List.{flat_map}
 use Rattle.std.proofs.lemmas.List.Elements.{All-head, All-tail}
 use Rattle.sq_expr.specs.Fits.{IsFit}
 use Rattle.sq_expr.specs.Reach.{IsReachable}
 use Rattle.sq_expr.specs.declared.block.Block.{Block}
-use Rattle.eddyql.specs.Outcome.{block_text, behind_line}
-use Rattle.eddyql.proofs.AnswerLemmas.{wrote_behind, wrote_front, wrote_through, wrote_nothing, wrote_is, wrote_text, text_of-none, text_of-more}
+use Rattle.eddyql.proofs.TallyLemmas.{answers_none, answers_all, answers_first, answers_through}
 use Rattle.eddyql.proofs.answering.put_answers.Goals as goal
 
 pub returns-in_default : goal.returns-in_default
-returns-in_default g c =
-    wrote_text _ _ _ _ _ (sym (text_of-none g.P.Predicates.gives c.args.tables.now c.args.blocks.now c.in_default.ensures.cases)) (wrote_nothing _)
+returns-in_default g c = answers_none c.args.settings.now.tally g.P.Predicates.gives c.args.tables.now c.args.blocks.now _ _ c.in_default.ensures.cases
 
 pub put_answer-requires-clause-fits : goal.put_answer-requires-clause-fits
 put_answer-requires-clause-fits g c =
@@ -33,15 +30,12 @@ put_more-requires-clause-fit g c =
 
 pub returns-in_err-put_answer : goal.returns-in_err-put_answer
 returns-in_err-put_answer g c =
-    wrote_text _ _ _ _ _
-    (sym (text_of-more g.P.Predicates.gives c.args.tables.now c.args.blocks.now c.in-Some.first.now c.in-Some.more.now c.in-Some.ensures.cases.0))
-    (wrote_through _ _ _ c.from_residual.result c.in_err-put_answer.field-0.0 c.from_residual.ensures.1
-    (wrote_front _ _ (block_text g.P.Predicates.gives c.args.tables.now c.in-Some.first.now) (flat_map (behind_line g.P.Predicates.gives c.args.tables.now) c.in-Some.more.now)
-    c.in_err-put_answer.field-0.0 (wrote_is _ _ _ _ _ c.in_err-put_answer.was c.put_answer.ensures)))
+    answers_through c.args.settings.now.tally g.P.Predicates.gives c.args.tables.now 1 c.args.blocks.now _ _ _ _ _ c.from_residual.result c.in_err-put_answer.field-0.0
+    c.from_residual.ensures.1
+    (answers_first c.args.settings.now.tally g.P.Predicates.gives c.args.tables.now c.args.blocks.now c.in-Some.first.now c.in-Some.more.now _ _ _ _ c.put_answer.result
+    c.in_err-put_answer.field-0.0 c.in-Some.ensures.cases.0 c.in_err-put_answer.was c.put_answer.ensures)
 
 pub returns : goal.returns
 returns g c =
-    wrote_text _ _ _ _ _
-    (sym (text_of-more g.P.Predicates.gives c.args.tables.now c.args.blocks.now c.in-Some.first.now c.in-Some.more.now c.in-Some.ensures.cases.0))
-    (wrote_behind _ _ _ (block_text g.P.Predicates.gives c.args.tables.now c.in-Some.first.now) (flat_map (behind_line g.P.Predicates.gives c.args.tables.now) c.in-Some.more.now)
-    c.put_more.result (wrote_is _ _ _ _ _ c.in_ok-put_answer.was c.put_answer.ensures) c.put_more.ensures)
+    answers_all c.args.settings.now.tally g.P.Predicates.gives c.args.tables.now c.args.blocks.now c.in-Some.first.now c.in-Some.more.now _ _ _ _ _ _ c.put_answer.result
+    c.put_more.result c.in-Some.ensures.cases.0 c.in_ok-put_answer.was c.put_answer.ensures c.put_more.ensures

@@ -1,9 +1,20 @@
-use Rattle.eddyql.proofs.AnswerLemmas.{wrote_stopped, wrote_through}
 use Rattle.eddyql.specs.Outcome.{behind_line}
+use Rattle.eddyql.proofs.TallyLemmas.{answers_stopped, answers_next, answers_nothing, answers_through}
 use Rattle.eddyql.proofs.answering.put_more.Goals as goal
+
+pub loop-index-init : goal.loop-index-init
+loop-index-init g c = answers_nothing c.args.settings.now.tally g.P.Predicates.gives c.args.tables.now 2 _ _
+
+pub loop-index-preserved : goal.loop-index-preserved
+loop-index-preserved g c =
+    answers_next c.args.settings.now.tally g.P.Predicates.gives c.args.tables.now 2 (behind_line g.P.Predicates.gives c.args.tables.now) c.args.blocks.now c.loop-index.index
+    c.index-blocks-index.result _ _ _ _ _ _ c.put_separated.result c.loop-index-test.true c.index-blocks-index.is c.loop-index.invariant c.put_separated.ensures
+    c.in_ok-put_separated.was
 
 pub returns-in_err-put_separated : goal.returns-in_err-put_separated
 returns-in_err-put_separated g c =
-    wrote_through _ _ _ c.from_residual.result c.in_err-put_separated.field-0.0 c.from_residual.ensures.1
-    (wrote_stopped (behind_line g.P.Predicates.gives c.args.tables.now) c.args.blocks.now c.loop-block.block-index c.block-item.result _ _ _ c.put_separated.result
-    c.in_err-put_separated.field-0.0 c.loop-block-test.true c.block-item.is c.loop-block.invariant c.put_separated.ensures c.in_err-put_separated.was)
+    answers_through c.args.settings.now.tally g.P.Predicates.gives c.args.tables.now 2 c.args.blocks.now _ _ _ _ _ c.from_residual.result
+    c.in_err-put_separated.field-0.0 c.from_residual.ensures.1
+    (answers_stopped c.args.settings.now.tally g.P.Predicates.gives c.args.tables.now 2 (behind_line g.P.Predicates.gives c.args.tables.now) c.args.blocks.now
+    c.loop-index.index c.index-blocks-index.result _ _ _ _ _ _ c.put_separated.result c.in_err-put_separated.field-0.0 c.loop-index-test.true c.index-blocks-index.is
+    c.loop-index.invariant c.put_separated.ensures c.in_err-put_separated.was)

@@ -1,11 +1,12 @@
 use Rattle.std.proofs.Common.{Ok, take}
 use Rattle.std.specs.List.{flat_map}
-use Rattle.eddyql.specs.Doing.{Wrote}
+use Rattle.eddyql.specs.Answering.{Answers}
 use Rattle.eddyql.specs.Outcome.{behind_line}
 use Rattle.eddyql.specs.Seen.{sink_seen}
 use Rattle.eddyql.proofs.answering.put_more.Given as goal
 
-abbrev pub invariant-loop-block : goal.invariant-loop-block
-invariant-loop-block g l =
-    Wrote (sink_seen (g.O.Sink.written l.initial.out) (g.O.Sink.faults l.initial.out)) (sink_seen (g.O.Sink.written l.out) (g.O.Sink.faults l.out))
-    (flat_map (behind_line g.P.Predicates.gives l.tables) (take l.block-index l.blocks)) {A = Unit {0}} (Ok tt)
+abbrev pub invariant-loop-index : goal.invariant-loop-index
+invariant-loop-index g l =
+    Answers l.settings.tally g.P.Predicates.gives l.tables 2 (take l.index l.blocks) (flat_map (behind_line g.P.Predicates.gives l.tables) (take l.index l.blocks))
+    (sink_seen (g.O.Sink.written l.initial.out) (g.O.Sink.faults l.initial.out)) (sink_seen (g.O.Sink.written l.out) (g.O.Sink.faults l.out))
+    (sink_seen (g.N.Sink.written l.initial.notes) (g.N.Sink.faults l.initial.notes)) (sink_seen (g.N.Sink.written l.notes) (g.N.Sink.faults l.notes)) (Ok tt)

@@ -5,7 +5,7 @@ use Rattle.eddyql.specs.Files.{catalogue_read}
 use Rattle.eddyql.specs.Outcome.{IsScript, Reached, ReachedTable}
 use Rattle.eddyql.specs.Steps.{ComesTo}
 use Rattle.eddyql.proofs.DoingLemmas.{through, went_on, went_behind, stopped_pure, stopped_weaker, stopped_behind}
-use Rattle.eddyql.proofs.RunLemmas.{plan_unscripted, plan_untabled, plan_over, reached_table, reached_script}
+use Rattle.eddyql.proofs.PlanLemmas.{plan_unscripted, plan_untabled, plan_over, reached_table, reached_script}
 use Rattle.eddyql.proofs.preparing.prepare.Goals as goal
 
 pub returns-in_err-script-clause-stopped : goal.returns-in_err-script-clause-stopped

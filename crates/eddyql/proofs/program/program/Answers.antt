@@ -1,5 +1,6 @@
 use Rattle.std.proofs.Common.{◌≡◌, ℕ, List, Result, map, sym, ap, subst, ◌∙◌, ◌⊎◌, inl, inr}
 use Rattle.std.specs.String.{string_bytes}
+use Rattle.eddyql.specs.Lines.{MayFail}
 use Rattle.eddyql.specs.Outcome.{IsOutcome, predicates}
 use Rattle.eddyql.specs.Run.{status_of}
 use Rattle.eddyql.specs.Stage.{stage_of, code_of}
@@ -12,8 +13,12 @@ code_either : (s t : Status) → (s ≡ t) ⊎ (s ≡ status.Memory) → (code_o
 code_either s t (inl e) = inl (ap (λ (u : Status). code_of (stage_of u)) e)
 code_either s t (inr e) = inr (ap (λ (u : Status). code_of (stage_of u)) e)
 
+-- what may fail, of equal words
+same_fault : {A B : Type 0} (ws vs : List (List ℕ)) → ws ≡ vs → MayFail ws A B → MayFail vs A B
+same_fault {A = A} {B = B} ws vs e k = subst (λ (x : List (List ℕ)). MayFail x A B) e k
+
 pub returns-clause-complete : goal.returns-clause-complete
 returns-clause-complete g c = λ files told calm quiet due d.
     subst (λ (n : ℕ). (n ≡ code_of (stage_of (status_of due))) ⊎ (n ≡ 9)) (sym c.code_for.ensures)
     (code_either c.run.result (status_of due)
-    (c.run.ensures.complete files told calm quiet due (subst (λ (ws : List (List ℕ)). IsOutcome (predicates (g.P.Predicates.number_of c.args.functions.now) (g.P.Predicates.kinds_of c.args.functions.now) g.P.Predicates.gives) ws files due) (sym c.behind_name.ensures) d)))
+    (c.run.ensures.complete files told calm (λ k. quiet (same_fault _ _ c.behind_name.ensures k)) due (subst (λ (ws : List (List ℕ)). IsOutcome (predicates (g.P.Predicates.number_of c.args.functions.now) (g.P.Predicates.kinds_of c.args.functions.now) g.P.Predicates.gives) ws files due) (sym c.behind_name.ensures) d)))

@@ -1,0 +1,56 @@
+-- Lines of counts: what each tells, and when it is right for its statement.
+use Rattle.std.specs.Prelude.{◌≡◌, ℕ, ◌+◌, ◌==◌, Bool, true, false, List, [], ◌∷◌, ◌++◌, length, codes, if◌then◌else◌}
+use Rattle.std.specs.Fmt.{decimal}
+use Rattle.std.specs.List.{count_by, flat_map, range_with_len}
+use Rattle.sq_value.specs.Relation.{Relation}
+use Rattle.sq_value.specs.declared.value.Value.{Value}
+use Rattle.sq_value.specs.declared.value.Truth.{Truth}
+use Rattle.sq_expr.specs.declared.block.Block.{Block}
+use Rattle.bag_meaning.specs.declared.combo.Built.{Built}
+use Rattle.bag_meaning.specs.declared.combo.Combo.{Combo}
+use Rattle.eddy_meaning.specs.Keys.{Mark}
+use Rattle.eddy_runs.specs.Recorded.{IsRecorded}
+
+-- the number of rows of an alias that a log builds
+abbrev pub built_of : List Built → ℕ → ℕ
+built_of log alias = count_by (λ (b : Built). b.alias == alias) log
+
+-- a comma before each alias but the first
+abbrev pub comma_before : ℕ → List ℕ
+comma_before alias = if alias == 0 then [] else 44 ∷ []
+
+-- the number of an alias, behind its comma
+abbrev pub built_part : List Built → ℕ → List ℕ
+built_part log alias = comma_before alias ++ decimal (built_of log alias)
+
+-- the numbers of built rows of so many aliases, with a comma between two
+abbrev pub built_text : ℕ → List Built → List ℕ
+built_text aliases log = flat_map (built_part log) (range_with_len 0 aliases)
+
+-- the line of a statement: the built rows of each alias, the most hops of a tuple, and the number of keys looked up
+unfoldable pub line_of_counts : ℕ → ℕ → List Built → ℕ → ℕ → List ℕ
+line_of_counts number aliases log hops looked =
+    codes "query " ++ decimal number ++ codes ": built " ++ built_text aliases log ++ codes " hops " ++ decimal hops
+    ++ codes " looked " ++ decimal looked ++ 10 ∷ []
+
+-- a line tells the counts of a run of a block, whose combinations are the block's answer but for their order
+pub record IsTally (gives : ℕ → Value → Value → Truth) (tables : List Relation) (number : ℕ) (block : Block)
+    (line : List ℕ) : Type 0 where
+  pub combos : List Combo
+  pub log : List Built
+  pub looked : List Mark
+  pub hops : ℕ
+  pub recorded : IsRecorded gives block tables combos log looked hops
+  pub is : line ≡ line_of_counts number (length block.aliases) log hops (length looked)
+
+-- the same where lines are asked for, and else nothing
+abbrev pub IsLine : Bool → (ℕ → Value → Value → Truth) → List Relation → ℕ → Block → List ℕ → Type 0
+IsLine true gives tables number block line = IsTally gives tables number block line
+IsLine false gives tables number block line = line ≡ []
+
+-- the lines of blocks in order, one behind another, the first of them of the statement with this number
+unfoldable pub AreLines : Bool → (ℕ → Value → Value → Truth) → List Relation → ℕ → List Block → List ℕ → Type 0
+AreLines tally gives tables number [] lines = lines ≡ []
+AreLines tally gives tables number (block ∷ more) lines =
+    (line : List ℕ) × (rest : List ℕ) × IsLine tally gives tables number block line
+    × AreLines tally gives tables (number + 1) more rest × (lines ≡ line ++ rest)
