@@ -91,8 +91,8 @@ const TALLIED: &str = "\
     2 looked 0/query 2: bui\n\
 ! --tally q n=n | SELECT x FROM n; SELECT x FROM n | put 5 0 | 6 Write | x/1/2/3/ | query 1: built 3 hops 2 looked \
     0/write fault/\n\
-! --tally q n=n | SELECT x FROM n; SELECT y FROM n |  | 3 Bind { statement: 2, fault: UnknownColumn { at: 24 } } |\
-      | statement 2: unknown column at byte 24/\n\
+! --tally q n=n | SELECT x FROM n; SELECT y FROM n |  | 3 Bind { statement: 2, fault: UnknownColumn { at: 24 } } |  \
+    | statement 2: unknown column at byte 24/\n\
 ";
 
 // Answers over tables with a look-up.
@@ -101,8 +101,8 @@ const LOOKED_UP: &str = "\
     ,7/Bob,5/ | \n\
 --lookup ord.cid cust ord | SELECT name, amt FROM cust c, ord o WHERE c.id = o.cid |  | 0 Done | name,amt/Ada,5/Ad\
     a,7/Bob,5/ | \n\
-! --lookup ord.cid --tally q cust=cust ord=ord | SELECT name, amt FROM cust c, ord o WHERE c.id = o.cid |  | 0 Done\
-     | name,amt/Ada,5/Ada,7/Bob,5/ | query 1: built 3,3 hops 3 looked 3/\n\
+! --lookup ord.cid --tally q cust=cust ord=ord | SELECT name, amt FROM cust c, ord o WHERE c.id = o.cid |  | 0 Done \
+    | name,amt/Ada,5/Ada,7/Bob,5/ | query 1: built 3,3 hops 3 looked 3/\n\
 ";
 
 // Refusals, each with its note.
