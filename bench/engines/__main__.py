@@ -3,7 +3,6 @@ import argparse
 import json
 import math
 import os
-import re
 import shlex
 import statistics
 import subprocess
@@ -103,25 +102,24 @@ def run_engines(engines, workload, files, folder, given):
     return results, judge({name: results[name] for name in order}, digests)
 
 
-def hops_of(program, words, workload, files, folder, limit):
-    """How many routings the program makes under a policy, as its tally says, or None where it says none."""
-    engine = peers.Eddyql(program, words=["--tally", *words])
-    said, _ = measured(engine.run(workload, files, folder), folder, limit)
-    hops = re.findall(r"^query \d+: built \S+ hops (\d+) looked", said["said"], re.M)
-    return sum(map(int, hops)) if hops and not said["status"] else None
+def seconds_under(words, workload, files, folder, given):
+    """The program's processor seconds with these words, or None where it isn't done."""
+    engine = peers.Eddyql(given.program, words=words)
+    said, _ = measured(engine.run(workload, files, folder), folder, given.limit)
+    return None if said["status"] or said["late"] else said["processor"]
 
 
-def count_routings(workload, files, folder, given):
-    """The routings of the lottery, of pressure, and of each route script of a workload that has some."""
-    if not (given.routings and workload.routes and os.access(given.program, os.X_OK)):
+def time_policies(workload, files, folder, given):
+    """Seconds under the lottery, under pressure, and under each route script of a workload that has some."""
+    if not (given.policies and workload.routes and os.access(given.program, os.X_OK)):
         return {}
-    count = lambda *words: hops_of(given.program, words, workload, files, folder, given.limit)  # noqa: E731
-    lottery = count("--policy", "lottery")
-    if lottery is None:
-        say(f"  {workload.name}: the program tells no routings")
+    scripts = [seconds_under(["--policy", "script", "--route", route], workload, files, folder, given) for route in workload.routes]
+    scripts = [it if it is not None else float(given.limit) for it in scripts]
+    lottery, pressure = (seconds_under(["--policy", it], workload, files, folder, given) for it in ("lottery", "pressure"))
+    if lottery is None or pressure is None:
         return {}
-    scripts = [it for it in (count("--policy", "script", "--route", route) for route in workload.routes) if it]
-    return {"lottery": lottery, "pressure": count("--policy", "pressure"), "best": min(scripts), "worst": max(scripts)}
+    say(f"  {workload.name}: lottery {lottery:.2f} s, pressure {pressure:.2f} s, {len(scripts)} route scripts {min(scripts):.2f} to {max(scripts):.2f} s")
+    return {"lottery": lottery, "pressure": pressure, "best": min(scripts), "worst": max(scripts)}
 
 
 def exponent(points):
@@ -164,7 +162,7 @@ def measure_all(given):
             results, rows = run_engines(engines, workload, files, work, given)
             done.append({"name": workload.name, "asks": workload.asks, "group": workload.group, "rows": workload.tables[0].rows,
                          "answer": rows, "statistics": workload.has_statistics, "engines": results})
-            done[-1]["routings"] = count_routings(workload, files, work, given)
+            done[-1]["policies"] = time_policies(workload, files, work, given)
             for file in files.values():
                 os.remove(file)
     return {"engines": [it.name for it in engines], "workloads": done, "growth": growth(done), "repeat": given.repeat, "limit": given.limit, "scale": given.scale}
@@ -184,8 +182,8 @@ def words():
     parser.add_argument("--seed", type=int, default=1, help="of the tables")
     parser.add_argument("--repeat", type=int, default=3, help="runs of each, of which the median counts")
     parser.add_argument("--limit", type=int, default=120, help="processor seconds after which a run is given up")
-    parser.add_argument("--routings", action="store_true",
-                        help="counts routings, too: of the lottery, of pressure, and of each route script")
+    parser.add_argument("--policies", action="store_true",
+                        help="measures the lottery, pressure and each route script, too, where the order of joins matters")
     parser.add_argument("--folder", default=None, help="where the tables are made (some 400 MB; default: the system's)")
     parser.add_argument("--raw", metavar="FILE", help="keeps what was measured")
     parser.add_argument("--again", metavar="FILE", help="measures nothing, and writes the table and the plot of what --raw kept")

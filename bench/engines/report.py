@@ -32,14 +32,15 @@ def times(said):
     return "\n".join(rows)
 
 
-def routings(said):
-    """Routings over those of the best route script."""
-    rows = ["| routings | best script | lottery | pressure | worst script |", "|---|---:|---:|---:|---:|"]
+def policies(said):
+    """Seconds over those of the best route script."""
+    rows = ["| policy | best script | lottery | pressure | worst script |", "|---|---:|---:|---:|---:|"]
     for one in said["workloads"]:
-        it = one.get("routings")
+        it = one.get("policies")
         if it:
-            rest = (f"×{it[name] / it['best']:.2f}" for name in ("lottery", "pressure", "worst"))
-            rows.append(f"| {one['name']} | {it['best']:,} | " + " | ".join(rest) + " |")
+            best = max(it["best"], 0.01)
+            rest = (f"×{it[name] / best:.2f}" for name in ("lottery", "pressure", "worst"))
+            rows.append(f"| {one['name']} | {it['best']:.2f} s | " + " | ".join(rest) + " |")
     return "\n".join(rows)
 
 
@@ -50,8 +51,8 @@ def table(said):
         times(said),
         "\n".join(f"- **{one['name']}**: {one['asks']}." for one in said["workloads"]),
     ]
-    if any(one.get("routings") for one in said["workloads"]):
-        parts.append(routings(said))
+    if any(one.get("policies") for one in said["workloads"]):
+        parts.append(policies(said))
     if said["growth"]:
         grows = ", ".join(f"{name} {power:.2f}" for name, power in said["growth"].items())
         parts.append(f"Over the equality joins the time grows with these powers of the rows a side: {grows}.")
