@@ -5,7 +5,9 @@ use Rattle.fn_registry.specs.Registry.{number_named, kinds_numbered}
 use Rattle.fn_registry.specs.ShippedSignatures.{shipped_signatures}
 use Rattle.fn_registry.specs.declared.signature.Signature.{Signature}
 use Rattle.outside.specs.Files.{File}
+use Rattle.eddyql.specs.Ending.{Finished}
 use Rattle.eddyql.specs.Outcome.{IsOutcome, predicates}
+use Rattle.eddyql.specs.Seen.{Folder, Sink}
 use Rattle.eddyql.specs.Shipped.{shipped_predicates}
 use Rattle.eddyql.specs.declared.status.Status.{Status}
 
@@ -21,3 +23,12 @@ pub outcome_shipped : (ss : List Signature) (words : List (List ℕ)) (files : L
     → IsOutcome shipped_predicates words files due → IsOutcome (predicates (number_named ss) (kinds_numbered ss) (gives_of 0)) words files due
 outcome_shipped ss words files due same outcome =
     subst (λ (l : List Signature). IsOutcome (predicates (number_named l) (kinds_numbered l) (gives_of 0)) words files due) (sym same) outcome
+
+-- a run that ended under the one ended so under the other
+pub shipped_finished : (ss : List Signature) (words : List (List ℕ)) (old new : Folder) (before now noted noting : Sink) (s : Status)
+    → ss ≡ shipped_signatures
+    → Finished (predicates (number_named ss) (kinds_numbered ss) (gives_of 0)) words old new before now noted noting s
+    → Finished shipped_predicates words old new before now noted noting s
+shipped_finished ss words old new before now noted noting s same finished =
+    subst (λ (l : List Signature). Finished (predicates (number_named l) (kinds_numbered l) (gives_of 0)) words old new before now noted noting s)
+    same finished

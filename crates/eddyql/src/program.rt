@@ -9,9 +9,11 @@ ghost use Rattle.outside.specs.Files.{File};
 ghost use Rattle.outside.specs.Faults.{RoseOrFull};
 ghost use Rattle.outside.specs.Told.{Adds};
 ghost use Rattle.eddyql.specs.Asked.{asked};
+ghost use Rattle.eddyql.specs.Ending.{Finished};
 ghost use Rattle.eddyql.specs.Lines.{MayFail};
 ghost use Rattle.eddyql.specs.Outcome.{IsOutcome, predicates};
 ghost use Rattle.eddyql.specs.Run.{status_of};
+ghost use Rattle.eddyql.specs.Seen.{folder_seen, sink_seen};
 ghost use Rattle.eddyql.specs.Stage.{stage_of, code_of};
 ghost use Rattle.eddyql.specs.declared.status.Status.{Status as Ending};
 
@@ -79,6 +81,13 @@ pub fn program<F: Folder, O: Sink, N: Sink, P: Predicates>(
         (RoseOrFull (N.faults notes.old) (N.faults notes.new)))
         → (due : Result (List ℕ) Ending) → IsOutcome p (drop 1 (map string_bytes words.now)) files due
         → (exit_status result ≡ code_of (stage_of (status_of due))) ⊎ (exit_status result ≡ 9) }
+    // All that `run` says of the words behind the name, with a status whose code this is.
+    ensures finished { let p = predicates (P.number_of functions.now) (P.kinds_of functions.now) P.gives in
+        (s : Ending) × (exit_status result ≡ code_of (stage_of s))
+        × Finished p (drop 1 (map string_bytes words.now)) (folder_seen (F.holds folder.old) (F.faults folder.old))
+        (folder_seen (F.holds folder.new) (F.faults folder.new)) (sink_seen (O.written out.old) (O.faults out.old))
+        (sink_seen (O.written out.new) (O.faults out.new)) (sink_seen (N.written notes.old) (N.faults notes.old))
+        (sink_seen (N.written notes.new) (N.faults notes.new)) s }
 {
     code_for(run(alloc, behind_name(words), folder, out, notes, functions))
 }

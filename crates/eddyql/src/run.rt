@@ -157,6 +157,9 @@ fn run_words<F: Folder, O: Sink, N: Sink, P: Predicates>(
 /// Where the folder tells what it holds, `Done` has written exactly the text of the outcome of these
 /// words, files and predicates, and any refusal but a fault of the folder or the output, or want of
 /// memory, is that outcome's. Want of memory may come at any point, and leaves a front of the text.
+///
+/// With `--tally` a line of counts is put to `notes` behind each answer. A fault there ends the run as `Write`,
+/// and nothing is put behind it.
 pub fn run<F: Folder, O: Sink, N: Sink, P: Predicates>(
     alloc: Global,
     words: &[String],
@@ -221,8 +224,8 @@ pub fn run<F: Folder, O: Sink, N: Sink, P: Predicates>(
         → N.written notes.new ≡ N.written notes.old }
     ensures silent_count { result ≡ Status.Done → N.faults notes.new ≡ N.faults notes.old }
 
-    // Behind the lines of the finished statements one line says why a run was refused; but nothing is put behind
-    // a fault of the notes at a line of counts.
+    // Behind the lines of the first statements, or none, one line says why a run was refused; but nothing is put
+    // behind a fault of the notes at a line of counts.
     ensures noted { let p = predicates (P.number_of functions.now) (P.kinds_of functions.now) P.gives in
         result ≢ Status.Done → (lines : List ℕ)
         × SomeLines p (map string_bytes words.now) (F.holds folder.old) lines
@@ -233,6 +236,13 @@ pub fn run<F: Folder, O: Sink, N: Sink, P: Predicates>(
         result ≡ Status.Write → ¬ (RoseOrFull (O.faults out.old) (O.faults out.new)) → (lines : List ℕ)
         × SomeLines p (map string_bytes words.now) (F.holds folder.old) lines
         × AddsFront (N.written notes.old) (N.written notes.new) lines }
+
+    // All of this in one, for those who hand the words on.
+    ensures finished { let p = predicates (P.number_of functions.now) (P.kinds_of functions.now) P.gives in
+        Finished p (map string_bytes words.now) (folder_seen (F.holds folder.old) (F.faults folder.old))
+        (folder_seen (F.holds folder.new) (F.faults folder.new)) (sink_seen (O.written out.old) (O.faults out.old))
+        (sink_seen (O.written out.new) (O.faults out.new)) (sink_seen (N.written notes.old) (N.faults notes.old))
+        (sink_seen (N.written notes.new) (N.faults notes.new)) result }
 {
     run_words(alloc, words, folder, out, notes, functions)
 }

@@ -1,6 +1,6 @@
 //! The program as it is shipped: with `divides`, `same_sign` and `near10` as its predicates.
 
-ghost use Rattle.std.specs.Prelude.{◌≡◌, ◌⊎◌, ◌++◌, ◌∷◌, [], ◌<◌, false, length, ℕ, List, Some, None, Result, Ok, IfOk, OnOk, map, drop};
+ghost use Rattle.std.specs.Prelude.{◌≡◌, ◌⊎◌, ◌++◌, ◌∷◌, [], ◌<◌, false, length, ℕ, List, Some, None, Result, Ok, IfOk, OnOk, OnErr, map, drop};
 ghost use Rattle.std.specs.Process.{exit_status};
 ghost use Rattle.std.specs.String.{string_bytes};
 ghost use Rattle.outside.specs.Files.{File};
@@ -9,9 +9,11 @@ ghost use Rattle.outside.specs.Told.{Adds};
 ghost use Rattle.fn_registry.specs.Registry.{is_taken};
 ghost use Rattle.fn_registry.specs.Signatures.{signatures};
 ghost use Rattle.eddyql.specs.Asked.{asked};
+ghost use Rattle.eddyql.specs.Ending.{Finished};
 ghost use Rattle.eddyql.specs.Lines.{MayFail};
 ghost use Rattle.eddyql.specs.Outcome.{IsOutcome};
 ghost use Rattle.eddyql.specs.Run.{status_of};
+ghost use Rattle.eddyql.specs.Seen.{folder_seen, sink_seen};
 ghost use Rattle.eddyql.specs.Shipped.{shipped_predicates};
 ghost use Rattle.eddyql.specs.Stage.{stage_of, code_of};
 ghost use Rattle.eddyql.specs.declared.status.Status.{Status as Ending};
@@ -66,6 +68,13 @@ fn run_shipped<F: Folder, O: Sink, N: Sink>(
         (RoseOrFull (N.faults notes.old) (N.faults notes.new)))
         → (due : Result (List ℕ) Ending) → IsOutcome shipped_predicates (drop 1 (map string_bytes words.now)) files due
         → (exit_status code ≡ code_of (stage_of (status_of due))) ⊎ (exit_status code ≡ 9)) }
+    ensures finished { IfOk result (λ code. (s : Ending) × (exit_status code ≡ code_of (stage_of s))
+        × Finished shipped_predicates (drop 1 (map string_bytes words.now))
+        (folder_seen (F.holds folder.old) (F.faults folder.old))
+        (folder_seen (F.holds folder.new) (F.faults folder.new)) (sink_seen (O.written out.old) (O.faults out.old))
+        (sink_seen (O.written out.new) (O.faults out.new)) (sink_seen (N.written notes.old) (N.faults notes.old))
+        (sink_seen (N.written notes.new) (N.faults notes.new)) s) }
+    ensures untouched { OnErr result ((folder.new ≡ folder.old) × (out.new ≡ out.old) × (notes.new ≡ notes.old)) }
 {
     let mut functions: Functions<SHIPPED> = Functions::new(alloc);
     let answer: Stored = Box::new(alloc, |x: &Value, y: &Value| divides(x, y))?;
@@ -102,6 +111,12 @@ pub fn program_as_shipped<F: Folder, O: Sink, N: Sink>(
         (RoseOrFull (N.faults notes.old) (N.faults notes.new)))
         → (due : Result (List ℕ) Ending) → IsOutcome shipped_predicates (drop 1 (map string_bytes words.now)) files due
         → (exit_status result ≡ code_of (stage_of (status_of due))) ⊎ (exit_status result ≡ 9) }
+    ensures finished { (s : Ending) × (exit_status result ≡ code_of (stage_of s))
+        × Finished shipped_predicates (drop 1 (map string_bytes words.now))
+        (folder_seen (F.holds folder.old) (F.faults folder.old))
+        (folder_seen (F.holds folder.new) (F.faults folder.new)) (sink_seen (O.written out.old) (O.faults out.old))
+        (sink_seen (O.written out.new) (O.faults out.new)) (sink_seen (N.written notes.old) (N.faults notes.old))
+        (sink_seen (N.written notes.new) (N.faults notes.new)) s }
 {
     match run_shipped(alloc, words, folder, out, notes) {
         Ok(code) => code,

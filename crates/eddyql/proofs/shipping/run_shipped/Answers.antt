@@ -2,7 +2,7 @@ use Rattle.std.proofs.Common.{rules, ◌≡◌, Ok, drop, map}
 use Rattle.std.specs.String.{string_bytes}
 use Rattle.fn_registry.specs.ShippedSignatures.{shipped_signatures}
 use Rattle.fn_registry.specs.Signatures.{signatures}
-use Rattle.eddyql.proofs.ShippingLemmas.{outcome_shipped, shipped_outcome}
+use Rattle.eddyql.proofs.ShippingLemmas.{outcome_shipped, shipped_outcome, shipped_finished}
 use Rattle.eddyql.proofs.shipping.run_shipped.Goals as goal
 
 pub returns-clause-done : goal.returns-clause-done
@@ -19,3 +19,12 @@ returns-clause-complete g c = λ files told calm quiet due outcome.
     let same : signatures c.put-3.new.functions ≡ shipped_signatures = search rules in
     c.program.ensures.complete files told calm quiet due
     (outcome_shipped (signatures c.put-3.new.functions) (drop 1 (map string_bytes c.args.words.now)) files due same outcome)
+
+pub returns-clause-finished : goal.returns-clause-finished
+returns-clause-finished g c =
+    let same : signatures c.put-3.new.functions ≡ shipped_signatures = search rules in
+    let finished = c.program.ensures.finished in (
+      finished.0,
+      finished.1,
+      shipped_finished (signatures c.put-3.new.functions) _ _ _ _ _ _ _ finished.0 same finished.2,
+    )
