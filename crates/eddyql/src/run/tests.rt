@@ -337,6 +337,27 @@ fn ended(alloc: Global, texts: &str, script: &[u8], told: &str) -> Result<bool, 
     Ok(said.as_str() == told && out.written().is_empty() == (status != Status::Done))
 }
 
+// A script of 200 kB before its words, as comment lines or as blanks, or in a text of its condition.
+#[test]
+fn long_scripts(rt: HostRuntime) -> Result<(), Fail> {
+    let alloc = rt.alloc();
+    let mut comments = Vec::new(alloc);
+    for _ in 0..10_000 {
+        comments.extend_from_slice(b"-- a comment line..\n")?;
+    }
+    comments.extend_from_slice(b"SELECT x FROM n")?;
+    let mut blanks = vec![in alloc; b' '; 200_000]?;
+    blanks.extend_from_slice(b"SELECT x FROM n")?;
+    let mut text = Vec::new(alloc);
+    text.extend_from_slice(b"SELECT v FROM v WHERE v < '")?;
+    text.extend_from_slice(&vec![in alloc; b'w'; 200_000]?)?;
+    text.extend_from_slice(b"'")?;
+    assert!(rt; ended(alloc, "n", &comments, "Done")?);
+    assert!(rt; ended(alloc, "n", &blanks, "Done")?);
+    assert!(rt; ended(alloc, "v", &text, "Done")?);
+    Ok(())
+}
+
 // A file of one byte more than the most, and numbers of statements and conjuncts at their limits.
 #[test]
 fn at_limits(rt: HostRuntime) -> Result<(), Fail> {
