@@ -44,7 +44,7 @@ def main():
     signal.alarm(0)
     code = os.waitstatus_to_exitcode(status)
     processor = used.ru_utime + used.ru_stime
-    late = code in (-signal.SIGKILL, -signal.SIGXCPU) and (processor > seconds - 1 or clock >= 10 * seconds)
+    late = code in (-signal.SIGKILL, -signal.SIGXCPU) and (processor > 0.95 * seconds - 1 or clock >= 10 * seconds)
     print(json.dumps({"status": code, "processor": processor, "memory": used.ru_maxrss, "clock": clock, "late": late}))
 
 
