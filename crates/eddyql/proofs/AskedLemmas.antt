@@ -3,10 +3,8 @@ use Rattle.std.proofs.Common.{◌≡◌, ℕ, Bool, true, false, if◌then◌els
 use Rattle.std.specs.Prelude.{option_and_then}
 use Rattle.command_line.specs.Form.{command}
 use Rattle.command_line.specs.declared.command.Command.{Command}
-use Rattle.command_line.specs.declared.command.Task.{Task}
-use Rattle.command_line.specs.declared.command.Task.TheVariants.{Query, Demo}
-use Rattle.command_line.specs.Within.{IsQuery, IsTask, IsWithin}
-use Rattle.eddyql.specs.Asked.{request_of, request_in, asked, is_run_yet}
+use Rattle.command_line.specs.Within.{IsTask, IsWithin}
+use Rattle.eddyql.specs.Asked.{request_of, asked, is_run_yet}
 use Rattle.eddyql.specs.Settings.{AreSettings, settings_of}
 use Rattle.eddyql.specs.declared.asking.Request.{Request}
 
@@ -19,12 +17,11 @@ unfolding asked
 asked_none words e = ap (option_and_then request_of) e
 
 -- what is asked for is within what the words may ask for
-pub request_within : (c : Command) (r : Request) → request_of c ≡ Some r → IsWithin c → IsQuery r.query × AreSettings r.settings
-request_within c r e w = by (is_run_yet c) c.task w.task e
+pub request_within : (c : Command) (r : Request) → request_of c ≡ Some r → IsWithin c → IsTask r.task × AreSettings r.settings
+request_within c r e w = by (is_run_yet c) e
   where
-    by : (b : Bool) (t : Task) → IsTask t → (if b then request_in c t else None) ≡ Some r → IsQuery r.query × AreSettings r.settings
-    by false t h k = absurd cc
-    by true (Query q) h k =
-        let same : record { query = q; settings = settings_of c } ≡ r = cc in
-        subst (λ (x : Request). IsQuery x.query × AreSettings x.settings) same (h, w.route)
-    by true (Demo n) h k = absurd cc
+    by : (b : Bool) → ◌≡◌ {A = Option Request} (if b then Some record { task = c.task; settings = settings_of c } else None) (Some r) → IsTask r.task × AreSettings r.settings
+    by false k = absurd cc
+    by true k =
+        let same : record { task = c.task; settings = settings_of c } ≡ r = cc in
+        subst (λ (x : Request). IsTask x.task × AreSettings x.settings) same (w.task, w.route)

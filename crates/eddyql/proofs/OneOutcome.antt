@@ -1,5 +1,5 @@
 -- Words over files have one outcome.
-use Rattle.std.proofs.Common.{◌≡◌, ℕ, zero, suc, ◌+◌, ◌<◌, ◌≤◌, List, [], ◌∷◌, length, get_or, Option, Some, None, Result, Ok, Err, refl, sym, ◌∙◌, ap, subst, ◌⊎◌, inl, inr, arith}
+use Rattle.std.proofs.Common.{◌≡◌, ℕ, zero, suc, ◌+◌, ◌%◌, ◌<◌, ◌≤◌, List, [], ◌∷◌, length, get_or, Option, Some, None, Result, Ok, Err, refl, sym, ◌∙◌, ap, subst, ◌⊎◌, inl, inr, arith}
 use Rattle.std.specs.Prelude.{All}
 use Rattle.std.proofs.lemmas.List.Elements.{All-head, All-tail, Contains-get_or}
 use Rattle.outside.specs.Files.{File}
@@ -16,12 +16,17 @@ use Rattle.sq_bind.specs.Statement.{Scope}
 use Rattle.sq_bind.proofs.AnswerLemmas.{one_fault, no_fault, some_answer}
 use Rattle.sq_bind.proofs.ParsedLemmas.{parsed_sound}
 use Rattle.sq_bind.specs.declared.fault.BindFault.{BindFault}
+use Rattle.command_line.specs.declared.command.AccessWord.{AccessWord}
 use Rattle.command_line.specs.declared.command.Query.{Query}
+use Rattle.command_line.specs.declared.command.Task.{Task}
+use Rattle.command_line.specs.declared.command.Task.TheVariants as task
+use Rattle.demo_tables.specs.Demo.{demo}
 use Rattle.eddyql.specs.Asked.{asked}
+use Rattle.eddyql.specs.Demo.{demo_script}
 use Rattle.eddyql.specs.Accesses.{accesses_read}
 use Rattle.eddyql.specs.Faults.{script_status, bind_status}
 use Rattle.eddyql.specs.Files.{file_read, catalogue_read}
-use Rattle.eddyql.specs.Outcome.{IsSpelled, IsScript, IsBlock, AreBlocks, IsBoundPlan, IsPlan, IsOutcome, OneOutcome, Predicates, text_of}
+use Rattle.eddyql.specs.Outcome.{IsSpelled, IsScript, IsBlock, AreBlocks, IsBoundPlan, IsPlan, IsDemoPlan, IsTaskPlan, IsRequested, IsOutcome, OneOutcome, Predicates, task_text}
 use Rattle.eddyql.specs.Steps.{Behind, AndThen, ComesTo, or_refuse, or_fault}
 use Rattle.eddyql.specs.declared.plan.Plan.{Plan}
 use Rattle.eddyql.specs.declared.status.FileOf.TheVariants as file
@@ -67,12 +72,12 @@ one_blocks scope number (s ∷ more) x y h k =
 one_script : (files : List File) (name : List ℕ) → IsOne (IsScript files name)
 one_script files name = one_then (ComesTo (file_read file.Script files name)) IsSpelled (one_given (file_read file.Script files name)) one_spelled
 
-one_bound_plan : (p : Predicates) (q : Query) (script : Script) (catalogue : NamedTables) → IsOne (IsBoundPlan p q script catalogue)
-one_bound_plan p q script catalogue =
-    one_then (ComesTo (accesses_read catalogue.tables q.accesses))
+one_bound_plan : (p : Predicates) (asks : List AccessWord) (script : Script) (catalogue : NamedTables) → IsOne (IsBoundPlan p asks script catalogue)
+one_bound_plan p asks script catalogue =
+    one_then (ComesTo (accesses_read catalogue.tables asks))
     (λ accesses. AndThen (AreBlocks (over catalogue accesses p.calls) 1 script.statements)
     (λ blocks. ComesTo (Ok record { blocks = blocks; catalogue = catalogue })))
-    (one_given (accesses_read catalogue.tables q.accesses))
+    (one_given (accesses_read catalogue.tables asks))
     (λ accesses. one_then (AreBlocks (over catalogue accesses p.calls) 1 script.statements)
     (λ blocks. ComesTo (Ok record { blocks = blocks; catalogue = catalogue }))
     (one_blocks (over catalogue accesses p.calls) 1 script.statements) (λ blocks. one_given (Ok record { blocks = blocks; catalogue = catalogue })))
@@ -80,18 +85,28 @@ one_bound_plan p q script catalogue =
 one_plan : (p : Predicates) (q : Query) (files : List File) → IsOne (IsPlan p q files)
 unfolding IsPlan
 one_plan p q files =
-    one_then (IsScript files q.script) (λ script. AndThen (ComesTo (catalogue_read files q.tables)) (λ catalogue. IsBoundPlan p q script catalogue))
+    one_then (IsScript files q.script) (λ script. AndThen (ComesTo (catalogue_read files q.tables)) (λ catalogue. IsBoundPlan p q.accesses script catalogue))
     (one_script files q.script)
-    (λ script. one_then (ComesTo (catalogue_read files q.tables)) (λ catalogue. IsBoundPlan p q script catalogue)
-    (one_given (catalogue_read files q.tables)) (one_bound_plan p q script))
+    (λ script. one_then (ComesTo (catalogue_read files q.tables)) (λ catalogue. IsBoundPlan p q.accesses script catalogue)
+    (one_given (catalogue_read files q.tables)) (one_bound_plan p q.accesses script))
+
+one_demo : (p : Predicates) (rows seed : ℕ) → IsOne (IsDemoPlan p rows seed)
+unfolding IsDemoPlan
+one_demo p rows seed =
+    one_then (IsSpelled demo_script) (λ script. IsBoundPlan p [] script (demo rows (seed % 1000))) (one_spelled demo_script)
+    (λ script. one_bound_plan p [] script (demo rows (seed % 1000)))
+
+one_requested : (p : Predicates) (t : Task) (seed : ℕ) (files : List File) → IsOne (IsTaskPlan p t seed files)
+one_requested p (task.Query q) seed files = one_plan p q files
+one_requested p (task.Demo rows) seed files = one_demo p rows seed
 
 pub same_outcome : (p : Predicates) (words : List (List ℕ)) (files : List File) → IsOne (IsOutcome p words files)
 same_outcome p words files x y h k =
     one_then (ComesTo (or_refuse status.Usage (asked words)))
-    (λ a. AndThen (IsPlan p a.query files) (λ plan. ComesTo (Ok (text_of p.gives plan.catalogue.tables plan.blocks))))
+    (λ a. AndThen (IsRequested p a files) (λ plan. ComesTo (Ok (task_text a.task p.gives plan.catalogue.tables plan.blocks))))
     (one_given (or_refuse status.Usage (asked words)))
-    (λ a. one_then (IsPlan p a.query files) (λ plan. ComesTo (Ok (text_of p.gives plan.catalogue.tables plan.blocks))) (one_plan p a.query files)
-    (λ plan. one_given (Ok (text_of p.gives plan.catalogue.tables plan.blocks)))) x y h k
+    (λ a. one_then (IsRequested p a files) (λ plan. ComesTo (Ok (task_text a.task p.gives plan.catalogue.tables plan.blocks))) (one_requested p a.task a.settings.seed files)
+    (λ plan. one_given (Ok (task_text a.task p.gives plan.catalogue.tables plan.blocks)))) x y h k
 
 -- ---- there is one
 
@@ -154,12 +169,12 @@ sources_of files name script h = by h.0 h.2
     by (Err s) k = absurd cc
     by (Ok text) k = sources_read text script k.0 k.1 k.2
 
-some_bound_plan : (p : Predicates) (q : Query) (script : Script) (catalogue : NamedTables) → All HasSource script.statements → Comes (IsBoundPlan p q script catalogue)
-some_bound_plan p q script catalogue all =
-    some_then (ComesTo (accesses_read catalogue.tables q.accesses))
+some_bound_plan : (p : Predicates) (asks : List AccessWord) (script : Script) (catalogue : NamedTables) → All HasSource script.statements → Comes (IsBoundPlan p asks script catalogue)
+some_bound_plan p asks script catalogue all =
+    some_then (ComesTo (accesses_read catalogue.tables asks))
     (λ accesses. AndThen (AreBlocks (over catalogue accesses p.calls) 1 script.statements)
     (λ blocks. ComesTo (Ok record { blocks = blocks; catalogue = catalogue })))
-    (some_given (accesses_read catalogue.tables q.accesses))
+    (some_given (accesses_read catalogue.tables asks))
     (λ accesses h. some_then (AreBlocks (over catalogue accesses p.calls) 1 script.statements)
     (λ blocks. ComesTo (Ok record { blocks = blocks; catalogue = catalogue }))
     (some_blocks (over catalogue accesses p.calls) 1 script.statements all) (λ blocks k. some_given (Ok record { blocks = blocks; catalogue = catalogue })))
@@ -167,18 +182,28 @@ some_bound_plan p q script catalogue all =
 some_plan : (p : Predicates) (q : Query) (files : List File) → Comes (IsPlan p q files)
 unfolding IsPlan
 some_plan p q files =
-    some_then (IsScript files q.script) (λ script. AndThen (ComesTo (catalogue_read files q.tables)) (λ catalogue. IsBoundPlan p q script catalogue))
+    some_then (IsScript files q.script) (λ script. AndThen (ComesTo (catalogue_read files q.tables)) (λ catalogue. IsBoundPlan p q.accesses script catalogue))
     (some_script files q.script)
-    (λ script h. some_then (ComesTo (catalogue_read files q.tables)) (λ catalogue. IsBoundPlan p q script catalogue)
-    (some_given (catalogue_read files q.tables)) (λ catalogue k. some_bound_plan p q script catalogue (sources_of files q.script script h)))
+    (λ script h. some_then (ComesTo (catalogue_read files q.tables)) (λ catalogue. IsBoundPlan p q.accesses script catalogue)
+    (some_given (catalogue_read files q.tables)) (λ catalogue k. some_bound_plan p q.accesses script catalogue (sources_of files q.script script h)))
+
+some_demo : (p : Predicates) (rows seed : ℕ) → Comes (IsDemoPlan p rows seed)
+unfolding IsDemoPlan
+some_demo p rows seed =
+    some_then (IsSpelled demo_script) (λ script. IsBoundPlan p [] script (demo rows (seed % 1000))) (some_spelled demo_script)
+    (λ script h. some_bound_plan p [] script (demo rows (seed % 1000)) (sources_read demo_script script h.0 h.1 h.2))
+
+some_requested : (p : Predicates) (t : Task) (seed : ℕ) (files : List File) → Comes (IsTaskPlan p t seed files)
+some_requested p (task.Query q) seed files = some_plan p q files
+some_requested p (task.Demo rows) seed files = some_demo p rows seed
 
 some_outcome : (p : Predicates) (words : List (List ℕ)) (files : List File) → Comes (IsOutcome p words files)
 some_outcome p words files =
     some_then (ComesTo (or_refuse status.Usage (asked words)))
-    (λ a. AndThen (IsPlan p a.query files) (λ plan. ComesTo (Ok (text_of p.gives plan.catalogue.tables plan.blocks))))
+    (λ a. AndThen (IsRequested p a files) (λ plan. ComesTo (Ok (task_text a.task p.gives plan.catalogue.tables plan.blocks))))
     (some_given (or_refuse status.Usage (asked words)))
-    (λ a h. some_then (IsPlan p a.query files) (λ plan. ComesTo (Ok (text_of p.gives plan.catalogue.tables plan.blocks))) (some_plan p a.query files)
-    (λ plan k. some_given (Ok (text_of p.gives plan.catalogue.tables plan.blocks))))
+    (λ a h. some_then (IsRequested p a files) (λ plan. ComesTo (Ok (task_text a.task p.gives plan.catalogue.tables plan.blocks))) (some_requested p a.task a.settings.seed files)
+    (λ plan k. some_given (Ok (task_text a.task p.gives plan.catalogue.tables plan.blocks))))
 
 pub one_outcome : OneOutcome
 one_outcome p words files =

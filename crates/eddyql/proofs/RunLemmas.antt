@@ -12,14 +12,14 @@ use Rattle.sq_value.specs.Relation.{Relation}
 use Rattle.sq_value.specs.declared.value.Value.{Value}
 use Rattle.sq_value.specs.declared.value.Truth.{Truth}
 use Rattle.sq_expr.specs.declared.block.Block.{Block}
-use Rattle.eddyql.specs.Asked.{asked, names_of, names_asked, is_tallied}
+use Rattle.eddyql.specs.Asked.{asked, names_of, names_asked, tables_in, is_tallied}
 use Rattle.eddyql.specs.Answering.{Answers, Tallied, of_notes}
 use Rattle.eddyql.specs.Doing.{Went, Stopped, Refuses, Wrote}
 use Rattle.eddyql.specs.Ending.{Answered, AnsweredBy, Ended, EndedBy, NotedLines, Finished, stop_at, stop_of}
 use Rattle.eddyql.specs.Lines.{AllLines, SomeLines, PlanLines, MayFail}
 use Rattle.eddyql.specs.Faults.{IsPlaced}
 use Rattle.eddyql.specs.Note.{IsNoted, NotesOf, line_of}
-use Rattle.eddyql.specs.Outcome.{IsOutcome, IsPlan, Predicates, Reached, ReachedBy, text_of}
+use Rattle.eddyql.specs.Outcome.{IsOutcome, IsRequested, Predicates, ReachedFor, ReachedBy, task_text}
 use Rattle.eddyql.specs.Refusal.{MayRefuse, IsEarly, IsBetween}
 use Rattle.eddyql.specs.Run.{MayEnd, IsLate, IsBeforeOutput, status_of, text_due}
 use Rattle.eddyql.specs.Seen.{Folder, Sink}
@@ -94,8 +94,8 @@ answered_memory tally old new noted noting text w = record {
 
 -- a run whose plan was made ends by its answers
 pub ended_answered : (p : Predicates) (words : List (List ℕ)) (a : Request) (plan : Plan) (old new : Folder) (before now : Sink) (fault : Type 0) (s : Status)
-    → asked words ≡ Some a → Went old new (λ files. IsPlan p a.query files (Ok plan))
-    → Answered before now fault (text_of p.gives plan.catalogue.tables plan.blocks) s → Ended p words old new before now fault s
+    → asked words ≡ Some a → Went old new (λ files. IsRequested p a files (Ok plan))
+    → Answered before now fault (task_text a.task p.gives plan.catalogue.tables plan.blocks) s → Ended p words old new before now fault s
 ended_answered p words a plan old new before now fault s e w put = record {
   keeps = w.keeps;
   folder_counts = omega (arith, w.kept);
@@ -113,7 +113,7 @@ ended_answered p words a plan old new before now fault s e w put = record {
 }
   where
     text : List ℕ
-    text = text_of p.gives plan.catalogue.tables plan.blocks
+    text = task_text a.task p.gives plan.catalogue.tables plan.blocks
 
     due : (files : List File) → old.holds ≡ Some files → IsOutcome p words files (Ok text)
     due files told = outcome_planned p words files a plan e (w.tells files told)
@@ -126,13 +126,13 @@ ended_answered p words a plan old new before now fault s e w put = record {
 
 -- a run whose plan was refused ends by that
 pub ended_stopped : (p : Predicates) (words : List (List ℕ)) (a : Request) (old new : Folder) (before : Sink) (fault : Type 0) (s : Status) → asked words ≡ Some a
-    → Stopped old new (λ files. IsPlan p a.query files (Err s)) (Reached a.query) s → Ended p words old new before before fault s
+    → Stopped old new (λ files. IsRequested p a files (Err s)) (ReachedFor a.task) s → Ended p words old new before before fault s
 ended_stopped p words a old new before fault s e r = record {
   keeps = r.keeps;
   folder_counts = r.counts;
   out_counts = omega arith;
   ends = λ files told.
-      MayEnd-early (λ f. RoseOrFull old.faults new.faults × Reached a.query files f) (λ f. RoseOrFull old.faults new.faults × ReachedBy words files f) _ (IsSome old.holds) _
+      MayEnd-early (λ f. RoseOrFull old.faults new.faults × ReachedFor a.task files f) (λ f. RoseOrFull old.faults new.faults × ReachedBy words files f) _ (IsSome old.holds) _
       (IsOutcome p words files) s r.early (outcome_unplanned p words files a s e)
       (λ f k. (k.0, record { given = a; in_form = e; reached = k.1 })) (reads files told);
   done = λ is. absurd (early_not_done _ s r.early is);
@@ -146,8 +146,8 @@ ended_stopped p words a old new before fault s e r = record {
   usage_only = λ is. absurd (early_not_usage _ s r.early is);
 }
   where
-    reads : (files : List File) → old.holds ≡ Some files → MayRefuse (λ f. RoseOrFull old.faults new.faults × Reached a.query files f) (IsPlan p a.query files (Err s)) s
-    reads files told = MayRefuse-read (Reached a.query files) (RoseOrFull old.faults new.faults) _ s r.read (r.refused files told)
+    reads : (files : List File) → old.holds ≡ Some files → MayRefuse (λ f. RoseOrFull old.faults new.faults × ReachedFor a.task files f) (IsRequested p a files (Err s)) s
+    reads files told = MayRefuse-read (ReachedFor a.task files) (RoseOrFull old.faults new.faults) _ s r.read (r.refused files told)
 
 -- the same where a fault has another reason
 ended_by_other : (p : Predicates) (words : List (List ℕ)) (old new : Folder) (before now : Sink) (fault other : Type 0) (s : Status) → (fault → other)
@@ -251,7 +251,7 @@ ok_weaker (Err e) f h = tt
 
 -- the lines of a plan that was run
 pub lines_answered : (p : Predicates) (words : List (List ℕ)) (a : Request) (plan : Plan) (old new : Folder) (noted noting : Sink) (e : End)
-    → asked words ≡ Some a → Went old new (λ files. IsPlan p a.query files (Ok plan))
+    → asked words ≡ Some a → Went old new (λ files. IsRequested p a files (Ok plan))
     → Tallied a.settings.tally p.gives plan.catalogue.tables 1 plan.blocks noted noting (stop_of e) → NotedLines p words old.holds noted noting e
 lines_answered p words a plan old new noted noting e is w h = record {
   lines = h.lines;
@@ -309,8 +309,8 @@ lines_unput p words holds told noted s early = record {
 
 -- how a run ended whose plan was run
 pub ended_by_answers : (p : Predicates) (words : List (List ℕ)) (a : Request) (plan : Plan) (old new : Folder) (before now noted noting : Sink) (e : End)
-    → asked words ≡ Some a → Went old new (λ files. IsPlan p a.query files (Ok plan))
-    → AnsweredBy a.settings.tally before now noted noting (text_of p.gives plan.catalogue.tables plan.blocks) e
+    → asked words ≡ Some a → Went old new (λ files. IsRequested p a files (Ok plan))
+    → AnsweredBy a.settings.tally before now noted noting (task_text a.task p.gives plan.catalogue.tables plan.blocks) e
     → EndedBy p words old new before now noted noting e
 ended_by_answers p words a plan old new before now noted noting (end.By s) is w put =
     ended_answered p words a plan old new before now (RoseOrFull before.faults now.faults) s is w put
@@ -341,7 +341,7 @@ noted_behind old mid new lines line put counts (inr h) =
 -- a run of what the words ask for, and its line
 pub finished_noted : (p : Predicates) (words : List (List ℕ)) (a : Request) (old new : Folder) (before now noted noting said : Sink) (s ended : Status)
     → asked words ≡ Some a → EndedBy p words old new before now noted noting (end.By s) → NotedLines p words old.holds noted noting (end.By s)
-    → NotesOf (names_of a.query.tables) noting said s ended → Finished p words old new before now noted said ended
+    → NotesOf (names_of (tables_in a.task)) noting said s ended → Finished p words old new before now noted said ended
 finished_noted p words a old new before now noted noting said s ended is h l n = record {
   ended = ended_by_other p words old new before now rose (MayFail words rose (RoseOrFull noted.faults said.faults)) ended (λ r. inl r)
       (by_either (λ (t : Status). Ended p words old new before now rose t) s ended n.either h (ended_memory p words old new before now rose s h));
@@ -353,7 +353,7 @@ finished_noted p words a old new before now noted noting said s ended is h l n =
     l.lines,
     l.some,
     subst (λ (names : List (List ℕ)). IsNoted noted said (l.lines ++ line_of names ended)) (sym names)
-        (noted_behind noted noting said l.lines (line_of (names_of a.query.tables) ended) whole.0 whole.1 (n.noted other)),
+        (noted_behind noted noting said l.lines (line_of (names_of (tables_in a.task)) ended) whole.0 whole.1 (n.noted other)),
   );
   cut = λ e calm. absurd (calm (h.write (written e n.either)));
 }
@@ -367,7 +367,7 @@ finished_noted p words a old new before now noted noting said s ended is h l n =
     never : ◌≡◌ {A = Option Request} None (Some a) → ⊥
     never f = cc
 
-    names : names_asked words ≡ names_of a.query.tables
+    names : names_asked words ≡ names_of (tables_in a.task)
     names = rw is refl
 
     done : (t : Status) → t ≡ status.Done → (t ≡ s) ⊎ (t ≡ status.Memory) → s ≡ status.Done
@@ -409,7 +409,7 @@ finished_cut p words a old new before now noted noting is h l = record {
 -- the same by an equal end
 pub finished_by : (p : Predicates) (words : List (List ℕ)) (a : Request) (old new : Folder) (before now noted noting said : Sink) (e : End) (s ended : Status)
     (tables : List TableWord) → e ≡ end.By s → asked words ≡ Some a → EndedBy p words old new before now noted noting e
-    → NotedLines p words old.holds noted noting e → tables ≡ a.query.tables → NotesOf (names_of tables) noting said s ended
+    → NotedLines p words old.holds noted noting e → tables ≡ tables_in a.task → NotesOf (names_of tables) noting said s ended
     → Finished p words old new before now noted said ended
 finished_by p words a old new before now noted noting said e s ended tables f is h l same n =
     finished_noted p words a old new before now noted noting said s ended is (subst (λ (x : End). EndedBy p words old new before now noted noting x) f h)

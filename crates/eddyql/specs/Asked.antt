@@ -13,24 +13,25 @@ use Rattle.eddyql.specs.declared.asking.Request.{Request}
 abbrev pub is_run_yet : Command → Bool
 is_run_yet c = c.workers == 1
 
--- a script over tables, and how its statements are run; the demo isn't run yet
-abbrev pub request_in : Command → Task → Option Request
-request_in c (Query q) = Some record { query = q; settings = settings_of c }
-request_in c (Demo rows) = None
-
+-- what is to be run, and how its statements are
 abbrev pub request_of : Command → Option Request
-request_of c = if is_run_yet c then request_in c c.task else None
+request_of c = if is_run_yet c then Some record { task = c.task; settings = settings_of c } else None
 
 -- what words ask for, where they are in form and are run yet
 unfoldable pub asked : List (List ℕ) → Option Request
 asked words = option_and_then request_of (command words)
+
+-- the tables of the words: the demo has none
+abbrev pub tables_in : Task → List TableWord
+tables_in (Query q) = q.tables
+tables_in (Demo rows) = []
 
 -- the names of the tables, as they were given
 abbrev pub names_of : List TableWord → List (List ℕ)
 names_of tables = map (λ (t : TableWord). t.name) tables
 
 abbrev pub names_asked : List (List ℕ) → List (List ℕ)
-names_asked words = option_map_or (λ (a : Request). names_of a.query.tables) (asked words) []
+names_asked words = option_map_or (λ (a : Request). names_of (tables_in a.task)) (asked words) []
 
 -- whether words ask for a line of counts for each statement
 abbrev pub is_tallied : List (List ℕ) → Bool

@@ -5,6 +5,7 @@ pub mod Settings
 pub mod Asked
 pub mod Files
 pub mod Accesses
+pub mod Demo
 pub mod Outcome
 pub mod Tally
 pub mod Lines

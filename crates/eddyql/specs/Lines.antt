@@ -3,7 +3,7 @@ use Rattle.std.specs.Prelude.{◌≡◌, ◌⊎◌, ℕ, true, List, [], ◌++�
 use Rattle.outside.specs.Files.{File}
 use Rattle.sq_expr.specs.declared.block.Block.{Block}
 use Rattle.eddyql.specs.Asked.{asked, is_tallied}
-use Rattle.eddyql.specs.Outcome.{IsPlan, Predicates}
+use Rattle.eddyql.specs.Outcome.{IsRequested, Predicates}
 use Rattle.eddyql.specs.Tally.{AreLines}
 use Rattle.eddyql.specs.declared.asking.Request.{Request}
 use Rattle.eddyql.specs.declared.plan.Plan.{Plan}
@@ -12,7 +12,7 @@ use Rattle.eddyql.specs.declared.plan.Plan.{Plan}
 pub record IsPlanOf (p : Predicates) (words : List (List ℕ)) (files : List File) (plan : Plan) : Type 0 where
   pub request : Request
   pub in_form : asked words ≡ Some request
-  pub plan_is : IsPlan p request.query files (Ok plan)
+  pub plan_is : IsRequested p request files (Ok plan)
 
 -- the lines of the first statements of a plan, which is the run's where the folder tells its files
 pub record PlanLines (p : Predicates) (words : List (List ℕ)) (holds : Option (List File)) (lines : List ℕ)

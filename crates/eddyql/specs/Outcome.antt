@@ -1,5 +1,5 @@
 -- What a run must answer: the outcome of words over files is the text of the answers, or the first refusal.
-use Rattle.std.specs.Prelude.{◌≡◌, ◌<◌, ℕ, ◌+◌, List, [], ◌∷◌, ◌++◌, length, take, Option, Some, Result, Ok, Err, IsOk, ⊤}
+use Rattle.std.specs.Prelude.{◌≡◌, ◌<◌, ℕ, ◌+◌, ◌%◌, List, [], ◌∷◌, ◌++◌, length, take, Option, Some, Result, Ok, Err, IsOk, ⊤}
 use Rattle.std.specs.List.{flat_map}
 use Rattle.sq_value.specs.Relation.{Relation}
 use Rattle.sq_value.specs.declared.value.Value.{Value}
@@ -19,9 +19,14 @@ use Rattle.sq_bind.specs.Condition.{Calls, calling}
 use Rattle.sq_bind.specs.Given.{over}
 use Rattle.sq_bind.specs.Statement.{Scope}
 use Rattle.sq_bind.specs.declared.fault.BindFault.{BindFault}
+use Rattle.demo_tables.specs.Demo.{demo}
+use Rattle.command_line.specs.declared.command.AccessWord.{AccessWord}
 use Rattle.command_line.specs.declared.command.Query.{Query}
+use Rattle.command_line.specs.declared.command.Task.{Task}
+use Rattle.command_line.specs.declared.command.Task.TheVariants as task
 use Rattle.command_line.specs.declared.command.TableWord.{TableWord}
 use Rattle.eddyql.specs.Asked.{asked}
+use Rattle.eddyql.specs.Demo.{demo_script, summary}
 use Rattle.eddyql.specs.Faults.{script_status, bind_status}
 use Rattle.eddyql.specs.Files.{file_read, tables_read, catalogue_read}
 use Rattle.eddyql.specs.Accesses.{accesses_read}
@@ -63,9 +68,9 @@ AreBlocks scope number (s ∷ more) due =
     (λ block. AndThen (AreBlocks scope (number + 1) more) (λ blocks. ComesTo (Ok (block ∷ blocks)))) due
 
 -- the plan of a script over a catalogue: the accesses' columns are found, and then all statements are bound
-abbrev pub IsBoundPlan : Predicates → Query → Script → NamedTables → Result Plan Status → Type 0
-IsBoundPlan p q script catalogue due =
-    AndThen (ComesTo (accesses_read catalogue.tables q.accesses))
+abbrev pub IsBoundPlan : Predicates → List AccessWord → Script → NamedTables → Result Plan Status → Type 0
+IsBoundPlan p asked script catalogue due =
+    AndThen (ComesTo (accesses_read catalogue.tables asked))
     (λ accesses. AndThen (AreBlocks (over catalogue accesses p.calls) 1 script.statements)
     (λ blocks. ComesTo (Ok record { blocks = blocks; catalogue = catalogue }))) due
 
@@ -73,7 +78,22 @@ IsBoundPlan p q script catalogue due =
 unfoldable pub IsPlan : Predicates → Query → List File → Result Plan Status → Type 0
 IsPlan p q files due =
     AndThen (IsScript files q.script)
-    (λ script. AndThen (ComesTo (catalogue_read files q.tables)) (λ catalogue. IsBoundPlan p q script catalogue)) due
+    (λ script. AndThen (ComesTo (catalogue_read files q.tables))
+    (λ catalogue. IsBoundPlan p q.accesses script catalogue)) due
+
+-- the demo, with so many rows a table: its queries over its tables
+unfoldable pub IsDemoPlan : Predicates → ℕ → ℕ → Result Plan Status → Type 0
+IsDemoPlan p rows seed due =
+    AndThen (IsSpelled demo_script) (λ script. IsBoundPlan p [] script (demo rows (seed % 1000))) due
+
+-- the plan of a script over tables, or of the demo with this seed
+abbrev pub IsTaskPlan : Predicates → Task → ℕ → List File → Result Plan Status → Type 0
+IsTaskPlan p (task.Query q) seed files due = IsPlan p q files due
+IsTaskPlan p (task.Demo rows) seed files due = IsDemoPlan p rows seed due
+
+-- the plan of what words ask for
+abbrev pub IsRequested : Predicates → Request → List File → Result Plan Status → Type 0
+IsRequested p a files due = IsTaskPlan p a.task a.settings.seed files due
 
 -- the text of a block's answer
 abbrev pub block_text : (ℕ → Value → Value → Truth) → List Relation → Block → List ℕ
@@ -88,12 +108,17 @@ unfoldable pub text_of : (ℕ → Value → Value → Truth) → List Relation �
 text_of gives tables [] = []
 text_of gives tables (block ∷ more) = block_text gives tables block ++ flat_map (behind_line gives tables) more
 
+-- the text of what is run: the answers, or the demo's summary
+abbrev pub task_text : Task → (ℕ → Value → Value → Truth) → List Relation → List Block → List ℕ
+task_text (task.Query q) gives tables blocks = text_of gives tables blocks
+task_text (task.Demo rows) gives tables blocks = summary gives tables blocks
+
 -- the outcome of words over files: the text that is due, or the first refusal
 abbrev pub IsOutcome : Predicates → List (List ℕ) → List File → Result (List ℕ) Status → Type 0
 IsOutcome p words files due =
     AndThen (ComesTo (or_refuse status.Usage (asked words)))
-    (λ a. AndThen (IsPlan p a.query files)
-    (λ plan. ComesTo (Ok (text_of p.gives plan.catalogue.tables plan.blocks)))) due
+    (λ a. AndThen (IsRequested p a files)
+    (λ plan. ComesTo (Ok (task_text a.task p.gives plan.catalogue.tables plan.blocks)))) due
 
 -- whether a file is one of these tables, and all tables before it are there and in form
 abbrev pub ReachedTable : List File → List TableWord → FileOf → Type 0
@@ -107,11 +132,16 @@ Reached q files file.Script = ⊤
 Reached q files (file.Table number) =
     ((script : Script) × IsScript files q.script (Ok script)) × ReachedTable files q.tables (file.Table number)
 
+-- the demo reaches no file
+abbrev pub ReachedFor : Task → List File → FileOf → Type 0
+ReachedFor (task.Query q) files f = Reached q files f
+ReachedFor (task.Demo rows) files f = ⊥
+
 -- the same of words
 pub record ReachedBy (words : List (List ℕ)) (files : List File) (f : FileOf) : Type 0 where
   pub given : Request
   pub in_form : asked words ≡ Some given
-  pub reached : Reached given.query files f
+  pub reached : ReachedFor given.task files f
 
 -- the law that words over files have one outcome
 abbrev pub OneOutcome : Type 0

@@ -2,23 +2,36 @@
 
 ghost use Rattle.std.specs.Prelude.{◌≡◌, ◌⊎◌, Some, None, map, IfOk, IfErr};
 ghost use Rattle.std.specs.String.{string_bytes};
-ghost use Rattle.command_line.specs.Within.{IsQuery};
+ghost use Rattle.command_line.specs.Within.{IsTask};
 ghost use Rattle.eddyql.specs.Asked as spec;
 ghost use Rattle.eddyql.specs.Settings.{AreSettings};
 
 use crate::settings::Settings;
 use crate::status::Status;
-use command_line::{Command, Query, Task, WordsFault, read_command};
+use command_line::{Command, TableWord, Task, WordsFault, read_command};
 use std::alloc::Global;
 
-/// What the words ask for, as far as it is run: a script over tables, and how its statements are run.
+/// What the words ask for, as far as it is run: a script over tables or the demo, and how its
+/// statements are run.
 #[derive(Debug, Drop)]
 pub struct Request {
-    pub query: Query,
+    pub task: Task,
     pub settings: Settings,
 }
 
-// What a command asks for: one that wants several workers, or the demo isn't run yet.
+impl Request {
+    /// The tables of the words: the demo has none.
+    pub fn tables(&self) -> &[TableWord]
+        ensures { result.now ≡ spec.tables_in self.now.task }
+    {
+        match &self.task {
+            Task::Query(query) => query.tables.as_slice(),
+            Task::Demo { rows: _ } => &[],
+        }
+    }
+}
+
+// What a command asks for: one that wants several workers isn't run yet.
 fn request_of(command: Command) -> Option<Request>
     ensures { result ≡ spec.request_of command }
 {
@@ -39,10 +52,7 @@ fn request_of(command: Command) -> Option<Request>
         route,
         tally,
     };
-    match task {
-        Task::Query(query) => Some(Request { query, settings }),
-        Task::Demo { rows: _ } => None,
-    }
+    Some(Request { task, settings })
 }
 
 /// What the words ask for.
@@ -51,7 +61,7 @@ fn request_of(command: Command) -> Option<Request>
 /// `Usage`: exactly where the words aren't in form, or ask for what isn't run yet; or `Memory`.
 pub fn asked(alloc: Global, words: &[String]) -> Result<Request, Status>
     ensures ok { IfOk result (λ a. spec.asked (map string_bytes words.now) ≡ Some a) }
-    ensures query { IfOk result (λ a. IsQuery a.query) }
+    ensures task { IfOk result (λ a. IsTask a.task) }
     ensures settings { IfOk result (λ a. AreSettings a.settings) }
     ensures refused { IfErr result (λ s. (s ≡ Status.Memory)
         ⊎ ((s ≡ Status.Usage) × (spec.asked (map string_bytes words.now) ≡ None))) }

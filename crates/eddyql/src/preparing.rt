@@ -2,7 +2,7 @@
 //! accesses' columns are found, and all statements are bound.
 
 ghost use Rattle.std.specs.Prelude.{◌≡◌, ◌<◌, ◌≤◌, ◌+◌, Ok, Err, IfOk, IfErr, All, length};
-ghost use Rattle.command_line.specs.Within.{IsQuery};
+ghost use Rattle.command_line.specs.Within.{IsAccess, IsQuery};
 ghost use Rattle.sq_bind.specs.Condition.{calling};
 ghost use Rattle.sq_bind.specs.Given.{IsParsed, AreAccesses, over};
 ghost use Rattle.sq_expr.specs.Fits.{IsFit};
@@ -19,7 +19,7 @@ use crate::plan::Plan;
 use crate::refusing::{bind_status, script_status};
 use crate::status::{FileOf, Status};
 use catalogue::Catalogue;
-use command_line::Query;
+use command_line::{AccessWord, Query};
 use outside::Folder;
 use sq_bind::bind;
 use sq_expr::{Access, Block};
@@ -28,8 +28,11 @@ use sq_value::Predicates;
 use sqlite_items::Items;
 use std::alloc::Global;
 
-// The script that a text spells.
-fn parse_script(alloc: Global, text: &[u8]) -> Result<Script, Status>
+/// The script that a text of at most 67,108,864 bytes spells.
+///
+/// # Errors
+/// The text's fault, or `Memory`.
+pub fn parse_script(alloc: Global, text: &[u8]) -> Result<Script, Status>
     requires { length text.now ≤ 67108864 }
     ensures ok { IfOk result (λ script. spec.IsSpelled text.now (Ok script)) }
     ensures parsed { IfOk result IsParsedScript }
@@ -113,6 +116,32 @@ fn bind_all<P: Predicates>(
     Ok(blocks)
 }
 
+/// The plan of a script over the tables of a catalogue, which are reached by these accesses.
+///
+/// # Errors
+/// The first refusal: an access's table lacks its column, or a statement can't be bound; or `Memory`.
+pub fn bind_over<P: Predicates>(
+    alloc: Global,
+    asked: &[AccessWord],
+    script: &Script,
+    catalogue: Catalogue,
+    functions: &P,
+) -> Result<Plan, Status>
+    requires few { length asked.now ≤ 16 }
+    requires within { All (IsAccess (length catalogue.tables)) asked.now }
+    requires parsed { IsParsedScript script.now }
+    ensures ok { let p = predicates (P.number_of functions.now) (P.kinds_of functions.now) P.gives in
+        IfOk result (λ plan. spec.IsBoundPlan p asked.now script.now catalogue (Ok plan)) }
+    ensures fit { IfOk result (λ plan. All (IsFit (P.kinds_of functions.now) plan.catalogue.tables) plan.blocks) }
+    ensures reachable { IfOk result (λ plan. All IsReachable plan.blocks) }
+    ensures refused { let p = predicates (P.number_of functions.now) (P.kinds_of functions.now) P.gives in
+        IfErr result (λ s. Refuses (spec.IsBoundPlan p asked.now script.now catalogue (Err s)) s) }
+{
+    let accesses = read_accesses(alloc, catalogue.tables(), asked)?;
+    let blocks = bind_all(alloc, script, &catalogue, accesses.as_slice(), functions)?;
+    Ok(Plan { blocks, catalogue })
+}
+
 // The plan of a script over the tables that were read.
 fn plan_over<P: Predicates>(
     alloc: Global,
@@ -125,18 +154,22 @@ fn plan_over<P: Predicates>(
     requires parsed { IsParsedScript script.now }
     requires count { length catalogue.tables ≡ length query.now.tables }
     ensures ok { let p = predicates (P.number_of functions.now) (P.kinds_of functions.now) P.gives in
-        IfOk result (λ plan. spec.IsBoundPlan p query.now script.now catalogue (Ok plan)) }
+        IfOk result (λ plan. spec.IsBoundPlan p query.now.accesses script.now catalogue (Ok plan)) }
     ensures fit { IfOk result (λ plan. All (IsFit (P.kinds_of functions.now) plan.catalogue.tables) plan.blocks) }
     ensures reachable { IfOk result (λ plan. All IsReachable plan.blocks) }
     ensures refused { let p = predicates (P.number_of functions.now) (P.kinds_of functions.now) P.gives in
-        IfErr result (λ s. Refuses (spec.IsBoundPlan p query.now script.now catalogue (Err s)) s) }
+        IfErr result (λ s. Refuses (spec.IsBoundPlan p query.now.accesses script.now catalogue (Err s)) s) }
 {
-    let accesses = read_accesses(alloc, catalogue.tables(), query.accesses.as_slice())?;
-    let blocks = bind_all(alloc, script, &catalogue, accesses.as_slice(), functions)?;
-    Ok(Plan { blocks, catalogue })
+    bind_over(
+        alloc,
+        query.accesses.as_slice(),
+        script,
+        catalogue,
+        functions,
+    )
 }
 
-/// The plan of what the words ask for: what a run runs.
+/// The plan of a script over tables: what a run runs.
 ///
 /// # Errors
 /// The first refusal, in this order: the script isn't there or can't be read, is too long, or isn't a

@@ -7,15 +7,15 @@ ghost use Rattle.outside.specs.Faults.{NeverFalls, RoseOrFull};
 ghost use Rattle.outside.specs.Told.{Adds, AddsFront};
 ghost use Rattle.sq_expr.specs.Fits.{IsFit};
 ghost use Rattle.sq_expr.specs.Reach.{IsReachable};
-ghost use Rattle.command_line.specs.Within.{IsQuery};
+ghost use Rattle.command_line.specs.Within.{IsTask};
 ghost use Rattle.eddyql.specs.Asked.{names_asked, is_tallied};
 ghost use Rattle.eddyql.specs.Asked as asking;
-ghost use Rattle.eddyql.specs.Answering.{Tallied};
+ghost use Rattle.eddyql.specs.Answering.{Answers, Tallied};
 ghost use Rattle.eddyql.specs.Ending.{AnsweredBy, EndedBy, NotedLines, Finished, stop_of};
 ghost use Rattle.eddyql.specs.Faults.{IsPlaced};
 ghost use Rattle.eddyql.specs.Lines.{AllLines, SomeLines, MayFail};
 ghost use Rattle.eddyql.specs.Note.{IsNoted, line_of};
-ghost use Rattle.eddyql.specs.Outcome.{IsOutcome, OneOutcome, ReachedBy, predicates, text_of};
+ghost use Rattle.eddyql.specs.Outcome.{IsOutcome, OneOutcome, ReachedBy, predicates, task_text};
 ghost use Rattle.eddyql.specs.Refusal.{UnlessReadOrMemory};
 ghost use Rattle.eddyql.specs.Settings.{AreSettings};
 ghost use Rattle.eddyql.specs.Run.{MayEnd, status_of, text_due, IsBeforeOutput};
@@ -25,14 +25,16 @@ ghost use Rattle.eddyql.specs.declared.status.Status.{Status as Ending};
 
 use crate::answering::put_answers;
 use crate::asking::{Request, asked};
+use crate::counting::put_summary;
 use crate::noting::put_note;
 use crate::plan::Plan;
-use crate::preparing::prepare;
-use crate::settings::Settings;
+use crate::planning::plan_for;
 use crate::status::Status;
 use crate::stopping::Stop;
+use command_line::Task;
 use outside::{Folder, Sink};
-use sq_value::Predicates;
+use sq_expr::Block;
+use sq_value::{Predicates, Tables};
 use std::alloc::Global;
 
 // How a run ended but for its note: by a status, or by a fault of the notes, to which nothing more is
@@ -43,29 +45,57 @@ pub enum End {
     ByNotes,
 }
 
+// Runs blocks, and puts their answers, or the demo's summary, and their lines of counts.
+fn put_task<O: Sink, N: Sink, P: Predicates>(
+    alloc: Global,
+    request: &Request,
+    blocks: &[Block],
+    tables: &Tables,
+    functions: &P,
+    out: &mut O,
+    notes: &mut N,
+) -> Result<(), Stop>
+    requires fit { All (IsFit (P.kinds_of functions.now) tables.now) blocks.now }
+    requires reachable { All IsReachable blocks.now }
+    requires settings { AreSettings request.now.settings }
+    ensures { Answers request.now.settings.tally P.gives tables.now 1 blocks.now
+        (task_text request.now.task P.gives tables.now blocks.now)
+        (sink_seen (O.written out.old) (O.faults out.old)) (sink_seen (O.written out.new) (O.faults out.new))
+        (sink_seen (N.written notes.old) (N.faults notes.old)) (sink_seen (N.written notes.new) (N.faults notes.new))
+        result }
+{
+    let settings = &request.settings;
+    match &request.task {
+        Task::Query(_) => put_answers(alloc, blocks, tables, settings, functions, out, notes),
+        Task::Demo { rows: _ } => {
+            put_summary(alloc, blocks, tables, settings, functions, out, notes)
+        }
+    }
+}
+
 // Runs a plan, writes its answers, and puts its lines of counts.
 fn run_plan<O: Sink, N: Sink, P: Predicates>(
     alloc: Global,
     plan: &Plan,
-    settings: &Settings,
+    request: &Request,
     functions: &P,
     out: &mut O,
     notes: &mut N,
 ) -> End
     requires fit { All (IsFit (P.kinds_of functions.now) plan.now.catalogue.tables) plan.now.blocks }
     requires reachable { All IsReachable plan.now.blocks }
-    requires settings { AreSettings settings.now }
-    ensures out { AnsweredBy settings.now.tally
+    requires settings { AreSettings request.now.settings }
+    ensures out { AnsweredBy request.now.settings.tally
         (sink_seen (O.written out.old) (O.faults out.old)) (sink_seen (O.written out.new) (O.faults out.new))
         (sink_seen (N.written notes.old) (N.faults notes.old)) (sink_seen (N.written notes.new) (N.faults notes.new))
-        (text_of P.gives plan.now.catalogue.tables plan.now.blocks) result }
-    ensures notes { Tallied settings.now.tally P.gives plan.now.catalogue.tables 1 plan.now.blocks
+        (task_text request.now.task P.gives plan.now.catalogue.tables plan.now.blocks) result }
+    ensures notes { Tallied request.now.settings.tally P.gives plan.now.catalogue.tables 1 plan.now.blocks
         (sink_seen (N.written notes.old) (N.faults notes.old)) (sink_seen (N.written notes.new) (N.faults notes.new))
         (stop_of result) }
 {
     let blocks = plan.blocks.as_slice();
     let tables = plan.catalogue.tables();
-    match put_answers(alloc, blocks, tables, settings, functions, out, notes) {
+    match put_task(alloc, request, blocks, tables, functions, out, notes) {
         Ok(()) => End::By(Status::Done),
         Err(Stop::Output) => End::By(Status::Write),
         Err(Stop::Notes) => End::ByNotes,
@@ -82,7 +112,7 @@ fn run_query<F: Folder, O: Sink, N: Sink, P: Predicates>(
     notes: &mut N,
     functions: &P,
 ) -> End
-    requires query { IsQuery request.now.query }
+    requires task { IsTask request.now.task }
     requires settings { AreSettings request.now.settings }
     ensures ended { let p = predicates (P.number_of functions.now) (P.kinds_of functions.now) P.gives in
         (words : List (List ℕ)) → asking.asked words ≡ Some request.now
@@ -95,8 +125,8 @@ fn run_query<F: Folder, O: Sink, N: Sink, P: Predicates>(
         → NotedLines p words (F.holds folder.old) (sink_seen (N.written notes.old) (N.faults notes.old))
         (sink_seen (N.written notes.new) (N.faults notes.new)) result }
 {
-    match prepare(alloc, &request.query, folder, functions) {
-        Ok(plan) => run_plan(alloc, &plan, &request.settings, functions, out, notes),
+    match plan_for(alloc, request, folder, functions) {
+        Ok(plan) => run_plan(alloc, &plan, request, functions, out, notes),
         Err(refusal) => End::By(refusal),
     }
 }
@@ -110,7 +140,7 @@ fn run_noted<F: Folder, O: Sink, N: Sink, P: Predicates>(
     notes: &mut N,
     functions: &P,
 ) -> Status
-    requires query { IsQuery request.now.query }
+    requires task { IsTask request.now.task }
     requires settings { AreSettings request.now.settings }
     ensures { let p = predicates (P.number_of functions.now) (P.kinds_of functions.now) P.gives in
         (words : List (List ℕ)) → asking.asked words ≡ Some request.now
@@ -120,7 +150,7 @@ fn run_noted<F: Folder, O: Sink, N: Sink, P: Predicates>(
         (sink_seen (N.written notes.new) (N.faults notes.new)) result }
 {
     match run_query(alloc, request, folder, out, notes, functions) {
-        End::By(status) => put_note(alloc, request.query.tables.as_slice(), status, notes),
+        End::By(status) => put_note(alloc, request.tables(), status, notes),
         End::ByNotes => Status::Write,
     }
 }

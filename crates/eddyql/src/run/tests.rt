@@ -105,6 +105,15 @@ const LOOKED_UP: &str = "\
     | name,amt/Ada,5/Ada,7/Bob,5/ | query 1: built 3,3 hops 3 looked 3/\n\
 ";
 
+// The demo, whose summary tells the number of rows of each answer.
+const DEMO: &str = "\
+! --demo 1000 |  |  | 0 Done | query,rows/q1,100/q2,50/q3,540/ | \n\
+! --demo 1000 --policy pressure --seed 18446744073709551615 |  |  | 0 Done | query,rows/q1,100/q2,50/q3,540/ | \n\
+! --demo 1 |  |  | 0 Done | query,rows/q1,0/q2,1/q3,0/ | \n\
+! --demo 1 |  | put 1 4 | 6 Write | quer | write fault/\n\
+! --demo 1 |  | put 3 0 | 6 Write | query,rows/q1,0/ | write fault/\n\
+";
+
 // Refusals, each with its note.
 const REFUSED: &str = "\
 ! |  |  | 2 Usage |  | usage: eddyql [OPTIONS] SCRIPT NAME=FILE.. or eddyql [OPTIONS] --demo ROWS/\n\
@@ -112,7 +121,7 @@ const REFUSED: &str = "\
     ONS] --demo ROWS/\n\
 ! --workers 2 q n=n | SELECT x FROM n |  | 2 Usage |  | usage: eddyql [OPTIONS] SCRIPT NAME=FILE.. or eddyql [OPTI\
     ONS] --demo ROWS/\n\
-! --demo 1000 |  |  | 2 Usage |  | usage: eddyql [OPTIONS] SCRIPT NAME=FILE.. or eddyql [OPTIONS] --demo ROWS/\n\
+! --demo 0 |  |  | 2 Usage |  | usage: eddyql [OPTIONS] SCRIPT NAME=FILE.. or eddyql [OPTIONS] --demo ROWS/\n\
 ! q n=n N=n | SELECT x FROM n |  | 2 Usage |  | usage: eddyql [OPTIONS] SCRIPT NAME=FILE.. or eddyql [OPTIONS] --d\
     emo ROWS/\n\
 ! --index z.x q n=n | SELECT x FROM n |  | 2 Usage |  | usage: eddyql [OPTIONS] SCRIPT NAME=FILE.. or eddyql [OPTI\
@@ -308,7 +317,7 @@ fn told(alloc: Global, case: Case<'_>) -> Result<bool, Fail> {
 
 #[test]
 fn runs_end_as_they_must(rt: HostRuntime) -> Result<(), Fail> {
-    for cases in [DONE, TALLIED, REFUSED, LOOKED_UP] {
+    for cases in [DONE, TALLIED, REFUSED, LOOKED_UP, DEMO] {
         for line in cases.lines() {
             if !told(rt.alloc(), case_of(line))? {
                 assert_eq!(rt; line, "");

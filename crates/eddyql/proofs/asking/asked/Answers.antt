@@ -13,8 +13,8 @@ returns-in-None-clause-refused c =
 pub returns-in-Err-OutOfForm-clause-refused : goal.returns-in-Err-OutOfForm-clause-refused
 returns-in-Err-OutOfForm-clause-refused c = inr (refl, asked_none (map string_bytes c.args.words.now) (c.in-Err-OutOfForm.ensures.refused c.in-Err-OutOfForm.field-0-is))
 
-pub returns-in-Some-clause-query : goal.returns-in-Some-clause-query
-returns-in-Some-clause-query c = (request_within c.in-Ok.command _ (sym c.request_of.ensures ∙ c.in-Some.is) c.in-Ok.ensures.within).0
+pub returns-in-Some-clause-task : goal.returns-in-Some-clause-task
+returns-in-Some-clause-task c = (request_within c.in-Ok.command _ (sym c.request_of.ensures ∙ c.in-Some.is) c.in-Ok.ensures.within).0
 
 pub returns-in-Some-clause-settings : goal.returns-in-Some-clause-settings
 returns-in-Some-clause-settings c = (request_within c.in-Ok.command _ (sym c.request_of.ensures ∙ c.in-Some.is) c.in-Ok.ensures.within).1

@@ -4,7 +4,7 @@ use Rattle.eddyql.proofs.run.run_noted.Goals as goal
 pub returns-in-By : goal.returns-in-By
 returns-in-By g c =
     λ words e. finished_by _ words c.args.request.now _ _ _ _ _ _ _ c.run_query.result c.in-By.status c.put_note.result _ c.in-By.is e
-    (c.run_query.ensures.ended words e) (c.run_query.ensures.lines words e) c.as_slice.ensures c.put_note.ensures
+    (c.run_query.ensures.ended words e) (c.run_query.ensures.lines words e) c.tables.ensures c.put_note.ensures
 
 pub returns-in-ByNotes : goal.returns-in-ByNotes
 returns-in-ByNotes g c =

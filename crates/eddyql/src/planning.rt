@@ -1,0 +1,50 @@
+//! From what the words ask for to the plan of a run: that of a script over tables, or of the demo.
+
+ghost use Rattle.std.specs.Prelude.{Ok, Err, IfOk, IfErr, All};
+ghost use Rattle.command_line.specs.Within.{IsTask};
+ghost use Rattle.sq_expr.specs.Fits.{IsFit};
+ghost use Rattle.sq_expr.specs.Reach.{IsReachable};
+ghost use Rattle.eddyql.specs.Doing.{Went, Stopped};
+ghost use Rattle.eddyql.specs.Outcome as spec;
+ghost use Rattle.eddyql.specs.Outcome.{predicates};
+ghost use Rattle.eddyql.specs.Seen.{folder_seen};
+
+use crate::asking::Request;
+use crate::demoing::prepare_demo;
+use crate::plan::Plan;
+use crate::preparing::prepare;
+use crate::status::Status;
+use command_line::Task;
+use outside::Folder;
+use sq_value::Predicates;
+use std::alloc::Global;
+
+/// The plan of what the words ask for. The demo loads no file.
+///
+/// # Errors
+/// As `prepare` and `prepare_demo` have them.
+pub fn plan_for<F: Folder, P: Predicates>(
+    alloc: Global,
+    request: &Request,
+    folder: &mut F,
+    functions: &P,
+) -> Result<Plan, Status>
+    requires { IsTask request.now.task }
+    ensures went { let p = predicates (P.number_of functions.now) (P.kinds_of functions.now) P.gives in
+        IfOk result (λ plan.
+        Went (folder_seen (F.holds folder.old) (F.faults folder.old))
+        (folder_seen (F.holds folder.new) (F.faults folder.new))
+        (λ files. spec.IsRequested p request.now files (Ok plan))) }
+    ensures fit { IfOk result (λ plan. All (IsFit (P.kinds_of functions.now) plan.catalogue.tables) plan.blocks) }
+    ensures reachable { IfOk result (λ plan. All IsReachable plan.blocks) }
+    ensures stopped { let p = predicates (P.number_of functions.now) (P.kinds_of functions.now) P.gives in
+        IfErr result (λ s.
+        Stopped (folder_seen (F.holds folder.old) (F.faults folder.old))
+        (folder_seen (F.holds folder.new) (F.faults folder.new))
+        (λ files. spec.IsRequested p request.now files (Err s)) (spec.ReachedFor request.now.task) s) }
+{
+    match &request.task {
+        Task::Query(query) => prepare(alloc, query, folder, functions),
+        Task::Demo { rows } => prepare_demo(alloc, *rows, request.settings.seed, functions),
+    }
+}
