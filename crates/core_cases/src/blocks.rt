@@ -95,7 +95,7 @@ fn random_events_find_the_bag(rt: HostRuntime) -> Result<(), Fail> {
     let tried = try_blocks(rt.alloc(), &mut state, EVENTS, 1000)?;
     assert_eq!(rt; tried.wrong.as_str(), "");
     assert_eq!(rt; tried.right, 1000);
-    assert_eq!(rt; tried.asking > 200, true);
+    assert_eq!(rt; tried.asking > 100, true);
     Ok(())
 }
 
