@@ -5,9 +5,13 @@ ghost use Rattle.std.specs.Prelude.{◌<◌};
 use std::alloc::Global;
 use std::test::Fail;
 
-/// How the three tables are reached by scans alone. `s0 1 s` would reach the first by a look-up too, and the second by
-/// one alone.
-pub const SCANS: &str = "s s s";
+/// The ways of a table.
+const WAYS: &str = "s s0 s1 0 1";
+
+/// Equalities between two aliases, and between three, by which keys are looked up.
+const JOINS_OF_TWO: &str = "a.x=b.x a.x=b.y b.x=a.y b.y=a.y";
+
+const JOINS_OF_THREE: &str = "a.x=b.x b.y=a.y b.x=c.x c.y=b.y c.x=a.y a.x=c.y";
 
 /// The next pseudo-random number below a bound that isn't 0 (Knuth's MMIX generator).
 pub fn next(state: &mut u64, below: u64) -> u64
@@ -54,6 +58,17 @@ pub fn tables(alloc: Global, state: &mut u64) -> Result<String, Fail> {
     Ok(text)
 }
 
+/// How the three tables are reached: by scans, by look-ups in a column, or by both. `s0 1 s` reaches the first by a
+/// look-up too, and the second by one alone.
+pub fn ways(alloc: Global, state: &mut u64) -> Result<String, Fail> {
+    let mut text = String::from_str(alloc, word(state, WAYS))?;
+    text.push_str(" ")?;
+    text.push_str(word(state, WAYS))?;
+    text.push_str(" ")?;
+    text.push_str(word(state, WAYS))?;
+    Ok(text)
+}
+
 // A comparison of a column with a column, a literal or a sum.
 fn push_comparison(text: &mut String, state: &mut u64, columns: &str) -> Result<(), Fail> {
     text.push_str(word(state, columns))?;
@@ -69,9 +84,14 @@ fn push_comparison(text: &mut String, state: &mut u64, columns: &str) -> Result<
     Ok(())
 }
 
-// A condition: a comparison, one of two, or one denied.
-fn push_condition(text: &mut String, state: &mut u64, columns: &str) -> Result<(), Fail> {
-    match next(state, 6) {
+// A condition: a comparison, one of two, one denied, or one of the joins.
+fn push_condition(
+    text: &mut String,
+    state: &mut u64,
+    columns: &str,
+    joins: &str,
+) -> Result<(), Fail> {
+    match next(state, 8) {
         0 => {
             text.push_str("(")?;
             push_comparison(text, state, columns)?;
@@ -83,6 +103,7 @@ fn push_condition(text: &mut String, state: &mut u64, columns: &str) -> Result<(
             text.push_str("NOT ")?;
             push_comparison(text, state, columns)?;
         }
+        2 | 3 | 4 => text.push_str(word(state, joins))?,
         _ => push_comparison(text, state, columns)?,
     }
     Ok(())
@@ -104,14 +125,14 @@ pub fn statement(alloc: Global, state: &mut u64) -> Result<String, Fail> {
         text.push_str(word(state, "r s t"))?;
         text.push_str(" c")?;
     }
-    let columns = match aliases {
-        0 => "a.x a.y",
-        1 | 2 => "a.x a.y b.x b.y",
-        _ => "a.x a.y b.x b.y c.x c.y",
+    let (columns, joins) = match aliases {
+        0 => ("a.x a.y", "a.x=1 a.y=2"),
+        1 | 2 => ("a.x a.y b.x b.y", JOINS_OF_TWO),
+        _ => ("a.x a.y b.x b.y c.x c.y", JOINS_OF_THREE),
     };
     for place in 0..next(state, 5) {
         text.push_str(if place == 0 { " WHERE " } else { " AND " })?;
-        push_condition(&mut text, state, columns)?;
+        push_condition(&mut text, state, columns, joins)?;
     }
     Ok(text)
 }

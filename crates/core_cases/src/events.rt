@@ -4,12 +4,11 @@ ghost use Rattle.sq_expr.specs.Fits.{IsFit};
 ghost use Rattle.sq_expr.specs.Reach.{IsReachable};
 
 use crate::compared::is_bag;
-use crate::drawn::{SCANS, next, statement, tables};
-use crate::sample::{accesses_of, block_of, catalogue_of};
+use crate::drawn::next;
 use eddy_core::{Core, StepRefused};
 use eddy_runs::Event;
 use sq_expr::Block;
-use sq_value::{NoPredicates, Predicates, Tables};
+use sq_value::{Predicates, Tables};
 use std::alloc::Global;
 use std::test::Fail;
 use tuple_span::{Route, Via};
@@ -79,59 +78,24 @@ fn drive<F: Predicates>(alloc: Global, core: &mut Core<'_, F>, state: &mut u64) 
     false
 }
 
-// Whether random events on a block come to an end with its bag.
-fn ends<F: Predicates>(
+/// How many keys random events on a block have asked for at its end, if they come to an end with its bag.
+pub fn keys_by_events<F: Predicates>(
     alloc: Global,
     block: &Block,
     tables: &Tables,
     functions: &F,
     state: &mut u64,
-) -> Result<bool, Fail>
+) -> Result<Option<u64>, Fail>
     requires fits { IsFit (F.kinds_of functions.now) tables.now block.now }
     requires reachable { IsReachable block.now }
 {
     let mut core = Core::start(alloc, block, tables, functions)?;
     if !drive(alloc, &mut core, state) {
-        return Ok(false);
+        return Ok(None);
     }
-    is_bag(
-        alloc,
-        block,
-        tables,
-        functions,
-        core.results(),
-        core.built(),
-    )
-}
-
-// A random block whose random events don't, as text, or nothing.
-fn wrong_block(alloc: Global, state: &mut u64) -> Result<String, Fail> {
-    let lines = tables(alloc, state)?;
-    let text = statement(alloc, state)?;
-    let catalogue = catalogue_of(alloc, lines.as_str())?;
-    let accesses = accesses_of(alloc, SCANS)?;
-    let right = match block_of(
-        alloc,
-        &catalogue,
-        accesses.as_slice(),
-        text.as_str(),
-        &NoPredicates,
-    )? {
-        Some(block) => ends(alloc, &block, catalogue.tables(), &NoPredicates, state)?,
-        None => false,
-    };
-    if right {
-        return Ok(String::new(alloc));
+    let (found, built) = (core.results(), core.built());
+    if !is_bag(alloc, block, tables, functions, found, built)? {
+        return Ok(None);
     }
-    Ok(format!(in alloc; "{lines}{text}")?)
-}
-
-#[test]
-fn random_events_find_the_bag(rt: HostRuntime) -> Result<(), Fail> {
-    let mut state = 22;
-    for _ in 0..1000 {
-        let wrong = wrong_block(rt.alloc(), &mut state)?;
-        assert_eq!(rt; wrong.as_str(), "");
-    }
-    Ok(())
+    Ok(Some(core.asked().len() as u64))
 }

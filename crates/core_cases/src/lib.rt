@@ -4,11 +4,15 @@
 #![tactic(auto)]
 
 #[cfg(test)]
+mod blocks;
+#[cfg(test)]
 mod compared;
 #[cfg(test)]
 mod drawn;
 #[cfg(test)]
 mod events;
+#[cfg(test)]
+mod listed;
 #[cfg(test)]
 mod policies;
 #[cfg(test)]

@@ -4,8 +4,7 @@ ghost use Rattle.sq_expr.specs.Fits.{IsFit};
 ghost use Rattle.sq_expr.specs.Reach.{IsReachable};
 
 use crate::compared::is_bag;
-use crate::drawn::{SCANS, statement, tables};
-use crate::sample::{accesses_of, block_of, catalogue_of};
+use crate::sample::{Case, block_of, catalogue_of, cut, digits_of};
 use eddy_core::run_one;
 use route_policy::{AnyPolicy, Lottery, Policy, Pressure, RouteScript};
 use sq_expr::Block;
@@ -21,18 +20,47 @@ n x:int/1/2/3
 e x:int";
 
 /// The worked cases, each with what is wanted: how often the policy was asked, the most hops, how many rows were built,
-/// keys looked up and combinations found; a bar, the policy, a bar, and the statement.
+/// keys looked up and combinations found; a bar, the ways of the tables, a bar, the statement, a bar, and the policy.
 const CASES: &str = "\
-14 3 7 0 3 | v0 | SELECT name, amt FROM cust c, ord o WHERE c.id = o.cid ORDER BY amt DESC
-26 4 7 0 3 | a0,a1 | SELECT name, amt FROM cust c, ord o WHERE c.id = o.cid ORDER BY amt DESC
-0 0 0 0 0 | v0 | SELECT x FROM e
-3 2 3 0 3 | lottery | SELECT x FROM n";
+14 3 7 0 3 | s s s s | SELECT name, amt FROM cust c, ord o WHERE c.id = o.cid ORDER BY amt DESC | v0
+26 4 7 0 3 | s s s s | SELECT name, amt FROM cust c, ord o WHERE c.id = o.cid ORDER BY amt DESC | a0,a1
+0 0 0 0 0 | s s s s | SELECT x FROM e | v0
+3 2 3 0 3 | s s s s | SELECT x FROM n | lottery
+21 4 8 0 4 | s s s s | SELECT o.oid FROM ord o, ord p WHERE o.cid = p.cid AND o.oid <= p.oid | v0
+37 5 8 0 4 | s s s s | SELECT o.oid FROM ord o, ord p WHERE o.cid = p.cid AND o.oid <= p.oid | a0,a1
+12 3 6 3 3 | s 1 s s | SELECT name, amt FROM cust c, ord o WHERE c.id = o.cid | v0
+16 4 6 3 3 | s 1 s s | SELECT name, amt FROM cust c, ord o WHERE c.id = o.cid | a0,a1
+17 3 7 3 3 | s s1 s s | SELECT name, amt FROM cust c, ord o WHERE c.id = o.cid | v0
+12 3 6 2 3 | 0 s s s | SELECT name, amt FROM ord o, cust c WHERE o.cid = c.id | v0";
 
-/// The policies of random blocks.
-const POLICIES: &str = "lottery pressure v0 a0,a1 b,a1,v0";
+/// Cases under each policy: how many rows are built, keys looked up and combinations found, whichever it is; the ways,
+/// the statement, and the hops that are never passed.
+const BOUNDS: &str = "\
+7 0 3 | s s s s | SELECT name, amt FROM cust c, ord o WHERE c.id = o.cid ORDER BY amt DESC | 4
+8 0 4 | s s s s | SELECT o.oid FROM ord o, ord p WHERE o.cid = p.cid AND o.oid <= p.oid | 5
+6 3 3 | s 1 s s | SELECT name, amt FROM cust c, ord o WHERE c.id = o.cid | 4
+6 2 3 | 0 s s s | SELECT name, amt FROM ord o, cust c WHERE o.cid = c.id | 4";
 
-/// What is said of a run that found something else than the bag.
+/// What a run by look-ups finds: the rows with their stamps; behind `log`, the built rows as alias:row; behind `keys`,
+/// the looked keys as alias:key, in millionths.
+const LOOKED: &str = "\
+0,0@1 0,1@2 1,2@4 log 0:0 1:0 1:1 0:1 1:2 0:2 keys 1:1000000 1:2000000 1:3000000";
+
+/// The policies, as words.
+pub const POLICIES: &str = "lottery pressure v0 a0,a1 b,a1,v0";
+
+/// What is said of a run that found something else than the bag, or of a text without a block.
 const OTHER: &str = "another bag";
+
+/// What is counted of a run.
+#[derive(Drop)]
+struct Counts {
+    asked: u64,
+    hops: u32,
+    rows: usize,
+    keys: usize,
+    found: usize,
+}
 
 // A policy by its word: `lottery`, `pressure`, or a route script.
 fn policy_of(word: &str) -> AnyPolicy {
@@ -45,14 +73,14 @@ fn policy_of(word: &str) -> AnyPolicy {
     }
 }
 
-// What is said of a run: its numbers, and whether it found the bag.
-fn said<F: Predicates>(
+// What is counted of a run, if it found the bag.
+fn counts_of<F: Predicates>(
     alloc: Global,
     block: &Block,
     tables: &Tables,
     functions: &F,
     word: &str,
-) -> Result<String, Fail>
+) -> Result<Option<Counts>, Fail>
     requires fits { IsFit (F.kinds_of functions.now) tables.now block.now }
     requires reachable { IsReachable block.now }
 {
@@ -60,83 +88,139 @@ fn said<F: Predicates>(
     let a = run_one(alloc, block, tables, &mut policy, functions)?;
     let (combos, built) = (a.combos.as_slice(), a.built.as_slice());
     if !is_bag(alloc, block, tables, functions, combos, built)? {
-        return Ok(String::from_str(alloc, OTHER)?);
+        return Ok(None);
     }
-    let (asked, hops) = (policy.asked(), a.most_hops);
-    let (rows, keys, found) = (built.len(), a.looked.len(), combos.len());
-    Ok(format!(in alloc; "{asked} {hops} {rows} {keys} {found}")?)
+    Ok(Some(Counts {
+        asked: policy.asked(),
+        hops: a.most_hops,
+        rows: built.len(),
+        keys: a.looked.len(),
+        found: combos.len(),
+    }))
 }
 
-// The first case that isn't right, with what is said of it, or nothing.
-fn wrong_case(alloc: Global, lines: &str, ways: &str) -> Result<String, Fail> {
-    let catalogue = catalogue_of(alloc, TABLES)?;
-    let accesses = accesses_of(alloc, ways)?;
-    for line in lines.lines() {
-        let (want, case) = line.split_once(" | ").unwrap_or(("no bar", ""));
-        let (word, text) = case.split_once(" | ").unwrap_or(("", ""));
-        let told = match block_of(alloc, &catalogue, accesses.as_slice(), text, &NoPredicates)? {
-            Some(block) => said(alloc, &block, catalogue.tables(), &NoPredicates, word)?,
-            None => String::from_str(alloc, "no block")?,
-        };
-        if told.as_str() != want {
-            return Ok(format!(in alloc; "{line}: {told}")?);
-        }
-    }
-    Ok(String::new(alloc))
-}
-
-// Whether a policy finds a block's bag.
-fn finds<F: Predicates>(
+/// How many keys a run looks up, if it finds the bag.
+pub fn keys_by_policy<F: Predicates>(
     alloc: Global,
     block: &Block,
     tables: &Tables,
     functions: &F,
     word: &str,
-) -> Result<bool, Fail>
+) -> Result<Option<u64>, Fail>
     requires fits { IsFit (F.kinds_of functions.now) tables.now block.now }
     requires reachable { IsReachable block.now }
 {
-    let told = said(alloc, block, tables, functions, word)?;
-    Ok(told.as_str() != OTHER)
+    match counts_of(alloc, block, tables, functions, word)? {
+        Some(counts) => Ok(Some(counts.keys as u64)),
+        None => Ok(None),
+    }
 }
 
-// A random block whose bag a policy doesn't find, as text, or nothing.
-fn wrong_block(alloc: Global, state: &mut u64, word: &str) -> Result<String, Fail> {
-    let lines = tables(alloc, state)?;
-    let text = statement(alloc, state)?;
-    let catalogue = catalogue_of(alloc, lines.as_str())?;
-    let accesses = accesses_of(alloc, SCANS)?;
-    let right = match block_of(
-        alloc,
-        &catalogue,
-        accesses.as_slice(),
-        text.as_str(),
-        &NoPredicates,
-    )? {
-        Some(block) => finds(alloc, &block, catalogue.tables(), &NoPredicates, word)?,
-        None => false,
-    };
-    if right {
-        return Ok(String::new(alloc));
+// What is counted of a case's run under a policy.
+fn counts_in(alloc: Global, case: &Case<'_>, word: &str) -> Result<Option<Counts>, Fail> {
+    let catalogue = catalogue_of(alloc, TABLES)?;
+    match block_of(alloc, &catalogue, case.ways, case.text, &NoPredicates)? {
+        Some(block) => counts_of(alloc, &block, catalogue.tables(), &NoPredicates, word),
+        None => Ok(None),
     }
-    Ok(format!(in alloc; "{lines}{text}")?)
+}
+
+// All that is counted, as text.
+fn said(alloc: Global, counts: &Counts) -> Result<String, Fail> {
+    let (asked, hops) = (counts.asked, counts.hops);
+    let (rows, keys, found) = (counts.rows, counts.keys, counts.found);
+    Ok(format!(in alloc; "{asked} {hops} {rows} {keys} {found}")?)
+}
+
+// What no policy changes, as text, if the run's hops are within a bound.
+fn said_within(alloc: Global, counts: &Counts, most: &str) -> Result<String, Fail> {
+    let most = most.parse::<u32>().unwrap_or(0);
+    if counts.hops > most {
+        return Ok(String::from_str(alloc, "too many hops")?);
+    }
+    let (rows, keys, found) = (counts.rows, counts.keys, counts.found);
+    Ok(format!(in alloc; "{rows} {keys} {found}")?)
+}
+
+// What is said of a case.
+fn case_said(alloc: Global, case: &Case<'_>) -> Result<String, Fail> {
+    match counts_in(alloc, case, case.how)? {
+        Some(counts) => said(alloc, &counts),
+        None => Ok(String::from_str(alloc, OTHER)?),
+    }
+}
+
+// What is said of a case with a bound, under a policy.
+fn bound_said(alloc: Global, case: &Case<'_>, word: &str) -> Result<String, Fail> {
+    match counts_in(alloc, case, word)? {
+        Some(counts) => said_within(alloc, &counts, case.how),
+        None => Ok(String::from_str(alloc, OTHER)?),
+    }
+}
+
+// What a run by the script `v0` answers, as text.
+fn answer_of<F: Predicates>(
+    alloc: Global,
+    block: &Block,
+    tables: &Tables,
+    functions: &F,
+) -> Result<String, Fail>
+    requires fits { IsFit (F.kinds_of functions.now) tables.now block.now }
+    requires reachable { IsReachable block.now }
+{
+    let mut policy = policy_of("v0");
+    let a = run_one(alloc, block, tables, &mut policy, functions)?;
+    let mut told = String::new(alloc);
+    for combo in a.combos.as_slice() {
+        let (first, second, stamp) = (combo.rows[0], combo.rows[1], combo.stamp);
+        told.push_str(format!(in alloc; "{first},{second}@{stamp} ")?.as_str())?;
+    }
+    told.push_str("log")?;
+    for entry in a.built.as_slice() {
+        let (alias, row) = (entry.alias, entry.row);
+        told.push_str(format!(in alloc; " {alias}:{row}")?.as_str())?;
+    }
+    told.push_str(" keys")?;
+    for key in a.looked.as_slice() {
+        let alias = key.alias;
+        let digits = digits_of(&key.key);
+        told.push_str(format!(in alloc; " {alias}:{digits}")?.as_str())?;
+    }
+    Ok(told)
 }
 
 #[test]
 fn cases_are_as_worked_out(rt: HostRuntime) -> Result<(), Fail> {
-    let wrong = wrong_case(rt.alloc(), CASES, "s s s s")?;
-    assert_eq!(rt; wrong.as_str(), "");
+    for line in CASES.lines() {
+        let case = cut(line);
+        let told = case_said(rt.alloc(), &case)?;
+        assert_eq!(rt; told.as_str(), case.want);
+    }
     Ok(())
 }
 
 #[test]
-fn policies_find_the_bag(rt: HostRuntime) -> Result<(), Fail> {
-    let mut state = 15;
-    for word in POLICIES.split(' ') {
-        for _ in 0..400 {
-            let wrong = wrong_block(rt.alloc(), &mut state, word)?;
-            assert_eq!(rt; wrong.as_str(), "");
+fn cases_are_within_bounds_under_each_policy(rt: HostRuntime) -> Result<(), Fail> {
+    for line in BOUNDS.lines() {
+        let case = cut(line);
+        for word in POLICIES.split(' ') {
+            let told = bound_said(rt.alloc(), &case, word)?;
+            assert_eq!(rt; told.as_str(), case.want);
         }
     }
+    Ok(())
+}
+
+#[test]
+fn a_run_by_look_ups_answers_as_worked_out(rt: HostRuntime) -> Result<(), Fail> {
+    let alloc = rt.alloc();
+    let catalogue = catalogue_of(alloc, TABLES)?;
+    let text = "SELECT name, amt FROM cust c, ord o WHERE c.id = o.cid";
+    if let Some(block) = block_of(alloc, &catalogue, "s 1 s s", text, &NoPredicates)? {
+        let told = answer_of(alloc, &block, catalogue.tables(), &NoPredicates)?;
+        assert_eq!(rt; told.as_str(), LOOKED);
+        return Ok(());
+    }
+    assert_eq!(rt; "no block", "a block");
     Ok(())
 }

@@ -9,10 +9,40 @@ use catalogue::Catalogue;
 use sq_bind::bind;
 use sq_expr::{Access, Block};
 use sq_parse::parse;
-use sq_value::{Predicates, Table, Tables};
+use sq_value::{Key, Predicates, Table, Tables};
 use std::alloc::Global;
 use std::test::Fail;
 use table_csv::read_table;
+
+/// A worked case, of a line with three bars: what is wanted, the ways of the tables, the statement, and how it is run.
+#[derive(Drop)]
+pub struct Case<'l> {
+    pub want: &'l str,
+    pub ways: &'l str,
+    pub text: &'l str,
+    pub how: &'l str,
+}
+
+/// The parts of a line, which are empty where it has too few bars.
+pub fn cut(line: &str) -> Case<'_> {
+    let (want, rest) = line.split_once(" | ").unwrap_or(("no bar", ""));
+    let (ways, rest) = rest.split_once(" | ").unwrap_or(("", ""));
+    let (text, how) = rest.split_once(" | ").unwrap_or(("", ""));
+    Case {
+        want,
+        ways,
+        text,
+        how,
+    }
+}
+
+/// A number's key, in millionths; 0 for a text's.
+pub fn digits_of(key: &Key<'_>) -> i128 {
+    match key {
+        Key::Number(number) => *number,
+        Key::Text(_) => 0,
+    }
+}
 
 // The text of a table, whose lines end with a slash.
 fn csv_of(alloc: Global, lines: &str) -> Result<String, Fail> {
@@ -50,8 +80,8 @@ fn access_of(word: &str) -> Access {
     }
 }
 
-/// How each table is reached, by words with a blank between.
-pub fn accesses_of(alloc: Global, words: &str) -> Result<Vec<Access>, Fail> {
+// How each table is reached, by words with a blank between.
+fn accesses_of(alloc: Global, words: &str) -> Result<Vec<Access>, Fail> {
     let mut accesses = Vec::new(alloc);
     for word in words.split(' ') {
         accesses.push(access_of(word))?;
@@ -99,17 +129,19 @@ fn are_accesses(tables: &Tables, accesses: &[Access]) -> bool
     true
 }
 
-/// The block of a text's first statement, where it is bound.
+/// The block of a text's first statement, where it is bound with these ways of the tables: words with a blank between.
 pub fn block_of<F: Predicates>(
     alloc: Global,
     catalogue: &Catalogue,
-    accesses: &[Access],
+    ways: &str,
     text: &str,
     functions: &F,
 ) -> Result<Option<Block>, Fail>
     ensures fits { IfOk result (λ block. IfSome block (IsFit (F.kinds_of functions.now) catalogue.now.tables)) }
     ensures reachable { IfOk result (λ block. IfSome block IsReachable) }
 {
+    let accesses = accesses_of(alloc, ways)?;
+    let accesses = accesses.as_slice();
     if text.len() > 99999 || !are_accesses(catalogue.tables(), accesses) {
         return Ok(None);
     }

@@ -1,18 +1,16 @@
-//! Single calls of a core, and what a recorder keeps of a run.
+//! A replay, and what a recorder keeps of a run.
 
 ghost use Rattle.sq_expr.specs.Fits.{IsFit};
 ghost use Rattle.sq_expr.specs.Reach.{IsReachable};
 
-use crate::sample::{accesses_of, block_of, catalogue_of};
+use crate::sample::{block_of, catalogue_of};
 use bag_meaning::Built;
-use eddy_core::{Core, StepRefused, replay, run_one};
-use eddy_runs::Event;
+use eddy_core::{replay, run_one};
 use route_policy::{PolicyCall, Recorder, RouteScript};
 use sq_expr::Block;
 use sq_value::{NoPredicates, Predicates, Tables};
 use std::alloc::Global;
 use std::test::Fail;
-use tuple_span::Route;
 
 /// The tables.
 const TABLES: &str = "\
@@ -24,54 +22,6 @@ n x:int/1/2/3";
 const BELOW: &str = "SELECT a.x AS p, b.x AS q FROM n a, n b WHERE a.x < b.x";
 
 const ORDERS: &str = "SELECT name, amt FROM cust c, ord o WHERE c.id = o.cid";
-
-/// What each event answers: how many tuples came, or why it is refused.
-fn answers(alloc: Global, told: &mut String, answer: Result<u64, StepRefused>) -> Result<(), Fail> {
-    let text = match answer {
-        Ok(count) => format!(in alloc; "{count} ")?,
-        Err(refused) => format!(in alloc; "{refused:?} ")?,
-    };
-    told.push_str(text.as_str())?;
-    Ok(())
-}
-
-// What a core says of three events: a claim, a selection before its time, and a build.
-fn steps<F: Predicates>(
-    alloc: Global,
-    block: &Block,
-    tables: &Tables,
-    functions: &F,
-) -> Result<String, Fail>
-    requires fits { IsFit (F.kinds_of functions.now) tables.now block.now }
-    requires reachable { IsReachable block.now }
-{
-    let mut core = Core::start(alloc, block, tables, functions)?;
-    let mut told = String::new(alloc);
-    let (early, build) = (Route::Select(0), Route::Build { alias: 0 });
-    let answer = core.step(alloc, Event::Claim { alias: 0 });
-    answers(alloc, &mut told, answer)?;
-    let answer = core.step(
-        alloc,
-        Event::Route {
-            place: 0,
-            route: early,
-        },
-    );
-    answers(alloc, &mut told, answer)?;
-    let answer = core.step(
-        alloc,
-        Event::Route {
-            place: 0,
-            route: build,
-        },
-    );
-    answers(alloc, &mut told, answer)?;
-    for entry in core.built() {
-        let (alias, row) = (entry.alias, entry.row);
-        told.push_str(format!(in alloc; "{alias}:{row}")?.as_str())?;
-    }
-    Ok(told)
-}
 
 // The combinations of a self-join that a list of built rows replays to.
 fn replays<F: Predicates>(
@@ -123,14 +73,11 @@ fn kept<F: Predicates>(
 }
 
 #[test]
-fn single_calls_answer_as_worked_out(rt: HostRuntime) -> Result<(), Fail> {
+fn a_list_replays_as_worked_out(rt: HostRuntime) -> Result<(), Fail> {
     let alloc = rt.alloc();
     let catalogue = catalogue_of(alloc, TABLES)?;
-    let accesses = accesses_of(alloc, "s s s")?;
-    let below = block_of(alloc, &catalogue, accesses.as_slice(), BELOW, &NoPredicates)?;
+    let below = block_of(alloc, &catalogue, "s s s", BELOW, &NoPredicates)?;
     if let Some(block) = below {
-        let told = steps(alloc, &block, catalogue.tables(), &NoPredicates)?;
-        assert_eq!(rt; told.as_str(), "1 NotLegal 1 0:0");
         let told = replays(alloc, &block, catalogue.tables(), &NoPredicates)?;
         assert_eq!(rt; told.as_str(), "0 1 at 1");
     }
@@ -141,14 +88,7 @@ fn single_calls_answer_as_worked_out(rt: HostRuntime) -> Result<(), Fail> {
 fn a_recorder_keeps_each_choice_and_return(rt: HostRuntime) -> Result<(), Fail> {
     let alloc = rt.alloc();
     let catalogue = catalogue_of(alloc, TABLES)?;
-    let accesses = accesses_of(alloc, "s s s")?;
-    let orders = block_of(
-        alloc,
-        &catalogue,
-        accesses.as_slice(),
-        ORDERS,
-        &NoPredicates,
-    )?;
+    let orders = block_of(alloc, &catalogue, "s s s", ORDERS, &NoPredicates)?;
     if let Some(block) = orders {
         let count = kept(alloc, &block, catalogue.tables(), &NoPredicates, 28)?;
         assert_eq!(rt; count, 28);

@@ -1,0 +1,112 @@
+//! Random blocks, by random events and under each policy.
+
+ghost use Rattle.sq_expr.specs.Fits.{IsFit};
+ghost use Rattle.sq_expr.specs.Reach.{IsReachable};
+
+use crate::drawn::{statement, tables, ways};
+use crate::events::keys_by_events;
+use crate::policies::{POLICIES, keys_by_policy};
+use crate::sample::{block_of, catalogue_of};
+use sq_expr::Block;
+use sq_value::{NoPredicates, Predicates, Tables};
+use std::alloc::Global;
+use std::test::Fail;
+
+/// The word of random events, beside those of policies.
+const EVENTS: &str = "events";
+
+/// How each table is reached where a block is tried that can't be reached as it was drawn.
+const SCANS: &str = "s s s";
+
+/// What random blocks came to: how many were right, how many of these asked for keys, and the first wrong one as text.
+#[derive(Drop)]
+struct Tried {
+    right: u32,
+    asking: u32,
+    wrong: String,
+}
+
+// How many keys a block's run asked for, by random events or under the policy of a word, if it found the bag.
+fn keys_of<F: Predicates>(
+    alloc: Global,
+    block: &Block,
+    tables: &Tables,
+    functions: &F,
+    state: &mut u64,
+    word: &str,
+) -> Result<Option<u64>, Fail>
+    requires fits { IsFit (F.kinds_of functions.now) tables.now block.now }
+    requires reachable { IsReachable block.now }
+{
+    if word == EVENTS {
+        return keys_by_events(alloc, block, tables, functions, state);
+    }
+    keys_by_policy(alloc, block, tables, functions, word)
+}
+
+// Counts a random block whose run asked for so many keys.
+fn count(keys: u64, tried: &mut Tried) {
+    tried.right = tried.right.saturating_add(1);
+    if keys > 0 {
+        tried.asking = tried.asking.saturating_add(1);
+    }
+}
+
+// Tries a random block, unless it can't be reached: then it must be one that scans reach.
+fn try_block(alloc: Global, state: &mut u64, word: &str, tried: &mut Tried) -> Result<(), Fail> {
+    let lines = tables(alloc, state)?;
+    let ways = ways(alloc, state)?;
+    let text = statement(alloc, state)?;
+    let (ways, text) = (ways.as_str(), text.as_str());
+    let catalogue = catalogue_of(alloc, lines.as_str())?;
+    let keys = match block_of(alloc, &catalogue, ways, text, &NoPredicates)? {
+        Some(block) => {
+            let tables = catalogue.tables();
+            keys_of(alloc, &block, tables, &NoPredicates, state, word)?
+        }
+        None if block_of(alloc, &catalogue, SCANS, text, &NoPredicates)?.is_some() => return Ok(()),
+        None => None,
+    };
+    match keys {
+        Some(keys) => count(keys, tried),
+        None => tried.wrong = format!(in alloc; "{lines}{ways}: {text}")?,
+    }
+    Ok(())
+}
+
+// Tries random blocks until so many were right, or one was wrong.
+fn try_blocks(alloc: Global, state: &mut u64, word: &str, wanted: u32) -> Result<Tried, Fail> {
+    let mut tried = Tried {
+        right: 0,
+        asking: 0,
+        wrong: String::new(alloc),
+    };
+    for _ in 0..wanted.saturating_mul(9) {
+        if tried.right < wanted && tried.wrong.is_empty() {
+            try_block(alloc, state, word, &mut tried)?;
+        }
+    }
+    Ok(tried)
+}
+
+#[test]
+fn random_events_find_the_bag(rt: HostRuntime) -> Result<(), Fail> {
+    let mut state = 22;
+    let tried = try_blocks(rt.alloc(), &mut state, EVENTS, 1000)?;
+    assert_eq!(rt; tried.wrong.as_str(), "");
+    assert_eq!(rt; tried.right, 1000);
+    assert_eq!(rt; tried.asking > 100, true);
+    Ok(())
+}
+
+#[test]
+fn policies_find_the_bag(rt: HostRuntime) -> Result<(), Fail> {
+    let mut state = 15;
+    for word in POLICIES.split(' ') {
+        let tried = try_blocks(rt.alloc(), &mut state, word, 400)?;
+        assert_eq!(rt; tried.wrong.as_str(), "");
+        assert_eq!(rt; tried.right, 400);
+        assert_eq!(rt; tried.asking > 20, true);
+    }
+    Ok(())
+}
