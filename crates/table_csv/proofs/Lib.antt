@@ -7,3 +7,4 @@ mod HeadLemmas
 mod ColumnLemmas
 mod RowLemmas
 mod FileLemmas
+mod FrontLemmas
