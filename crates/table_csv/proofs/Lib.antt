@@ -8,3 +8,4 @@ mod ColumnLemmas
 mod RowLemmas
 mod FileLemmas
 mod FrontLemmas
+mod DigitLemmas

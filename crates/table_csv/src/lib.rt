@@ -2,6 +2,7 @@
 #![tactic(auto)]
 
 mod columns;
+mod digits;
 mod fault;
 mod fields;
 mod front;
