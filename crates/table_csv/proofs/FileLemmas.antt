@@ -112,7 +112,7 @@ unfolding columns_from
 columns-length place [] records = refl
 columns-length place (f ∷ fs) records = ap (λ n. suc n) (columns-length (place + 1) fs records)
 
-all_learned-length : (ss : List Seen) (fs : List (List ℕ)) → length (all_learned ss fs) ≡ length ss
+pub all_learned-length : (ss : List Seen) (fs : List (List ℕ)) → length (all_learned ss fs) ≡ length ss
 unfolding all_learned
 all_learned-length [] fs = refl
 all_learned-length (s ∷ ss) [] = refl

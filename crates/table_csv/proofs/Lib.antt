@@ -7,3 +7,5 @@ mod HeadLemmas
 mod ColumnLemmas
 mod RowLemmas
 mod FileLemmas
+mod FrontLemmas
+mod DigitLemmas

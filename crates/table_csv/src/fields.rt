@@ -5,6 +5,7 @@ ghost use Rattle.csv.specs.Records.{fields_of};
 ghost use Rattle.table_csv.specs.Work.{ScaleFits, ScalesFit};
 ghost use Rattle.table_csv.specs.Fields.{field_fault, number_fault, value_of, written_value, fields_fault, values_of, record_fault};
 
+use crate::digits::plain_integer;
 use crate::fault::TableFault;
 use crate::records::field_of;
 use csv::ByteRecord;
@@ -67,6 +68,39 @@ fn field_value(
     }
 }
 
+/// The value of an INTEGER column's field. Most are digits alone, and read without a text between.
+fn integer_field(alloc: Global, text: &[u8], rec: u32, field: u32) -> Result<Value, TableFault>
+    ensures ok { IfOk result (λ value. value ≡ value_of ColType.Integer text.now) }
+    ensures taken { OnOk result (field_fault rec field ColType.Integer text.now ≡ None) }
+    ensures fault { IfErr result (λ fault. fault ≢ TableFault.Memory → field_fault rec field ColType.Integer text.now
+        ≡ Some fault) }
+{
+    match plain_integer(text) {
+        Some(number) => Ok(Value::Int(number)),
+        None => field_value(alloc, ColType::Integer, text, rec, field),
+    }
+}
+
+/// The value of a field in a column of that type, by the way that is short for most fields.
+fn read_field(
+    alloc: Global,
+    kind: ColType,
+    text: &[u8],
+    rec: u32,
+    field: u32,
+) -> Result<Value, TableFault>
+    requires { ScaleFits kind }
+    ensures ok { IfOk result (λ value. value ≡ value_of kind text.now) }
+    ensures taken { OnOk result (field_fault rec field kind text.now ≡ None) }
+    ensures fault { IfErr result (λ fault. fault ≢ TableFault.Memory → field_fault rec field kind text.now
+        ≡ Some fault) }
+{
+    match kind {
+        ColType::Integer => integer_field(alloc, text, rec, field),
+        _ => field_value(alloc, kind, text, rec, field),
+    }
+}
+
 /// Puts the values of a record that has as many fields as there are columns, at most 64, into an
 /// empty list.
 fn fill_values(
@@ -88,7 +122,7 @@ fn fill_values(
     for i in 0..columns.len() {
         let kind = columns[i].kind;
         let field = field_of(row, i);
-        values.push(field_value(alloc, kind, field, rec, i as u32 + 1)?)?;
+        values.push(read_field(alloc, kind, field, rec, i as u32 + 1)?)?;
     }
     Ok(())
 }

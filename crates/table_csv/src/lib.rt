@@ -1,10 +1,14 @@
 //! Tables read from CSV files, as people write them.
 #![tactic(auto)]
 
+mod columns;
+mod digits;
 mod fault;
 mod fields;
+mod front;
 mod heading;
 mod marks;
+mod once;
 mod reading;
 mod records;
 mod rows;

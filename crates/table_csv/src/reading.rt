@@ -1,20 +1,22 @@
-//! A table from the bytes of a file, in two passes over them: the columns, and then the rows.
-ghost use Rattle.std.specs.Prelude.{◌≡◌, ◌≢◌, [], length, fold, replicate, IfOk, IfErr};
-ghost use Rattle.csv.specs.Reading.{strip_bom};
-ghost use Rattle.sq_value.specs.Relation.{IsHeading};
+//! A table from the bytes of a file: in one pass over them, or in two where the first records mislead.
+ghost use Rattle.std.specs.Prelude.{◌≡◌, ◌≢◌, Err, Ok, length, fold, replicate, IfOk, IfErr};
+ghost use Rattle.csv.specs.Reading.{default_config, records, strip_bom};
 ghost use Rattle.table_csv.specs.TableFile.{behind_order_marks, table_of_bytes, table_of_records};
-ghost use Rattle.table_csv.specs.Headed.{IsHeaded};
+ghost use Rattle.table_csv.specs.Headed.{AreHeads, IsHeaded, IsLearned};
 ghost use Rattle.table_csv.specs.Reading.{IsPlain, records_left};
-ghost use Rattle.table_csv.specs.Work.{all_learned, column_of_head, completed};
+ghost use Rattle.table_csv.specs.Work.{all_learned};
 
+use crate::columns::{complete, empty_table};
 use crate::fault::TableFault;
 use crate::fields::MOST_ROWS;
-use crate::heading::{MOST_COLUMNS, Named, read_heading};
+use crate::front::{learn_first, read_heads};
+use crate::heading::Named;
+use crate::once::read_once;
 use crate::records::{next_row, plain_reader};
 use crate::rows::read_rows;
-use crate::types::{Seen, learn_record, type_of};
+use crate::types::{Seen, learn_record};
 use csv::{ByteRecord, Reader};
-use sq_value::{Column, SqText, Table};
+use sq_value::{Column, Table};
 use std::alloc::Global;
 
 /// The bytes behind all byte order marks with which they begin.
@@ -59,31 +61,6 @@ fn learn_all(alloc: Global, reader: &mut Reader<&[u8]>, width: usize) -> Result<
     })
 }
 
-/// The column of a head, which has the type that is known where it has no mark.
-fn complete_one(alloc: Global, head: &Named, seen: Seen) -> Result<Column, TableFault>
-    ensures ok { IfOk result (λ column. column ≡ column_of_head head.now seen) }
-    ensures memory { IfErr result (λ fault. fault ≡ TableFault.Memory) }
-{
-    let kind = head.kind.unwrap_or(type_of(seen));
-    Ok(Column {
-        name: SqText::of(alloc, head.name.as_str())?,
-        kind,
-    })
-}
-
-/// The columns of a heading, where a column without a mark has the type that its fields show.
-fn complete(alloc: Global, heads: &[Named], seen: &[Seen]) -> Result<Vec<Column>, TableFault>
-    requires { length heads.now ≡ length seen.now }
-    ensures ok { IfOk result (λ columns. columns.items ≡ completed heads.now seen.now) }
-    ensures memory { IfErr result (λ fault. fault ≡ TableFault.Memory) }
-{
-    let mut columns = Vec::with_capacity(alloc, heads.len())?;
-    for i in 0..heads.len() {
-        columns.push(complete_one(alloc, &heads[i], seen[i])?)?;
-    }
-    Ok(columns)
-}
-
 /// What the first pass finds: the columns, and how many rows to take room for.
 #[derive(Drop)]
 struct Layout {
@@ -91,38 +68,22 @@ struct Layout {
     rows: u32,
 }
 
-/// The layout of the reader's records, the first of which is the heading.
-fn read_layout(alloc: Global, reader: &mut Reader<&[u8]>) -> Result<Layout, TableFault>
-    requires { IsPlain reader.old }
-    ensures ok { IfOk result (λ layout. IsHeaded (records_left reader.old) layout.columns.items) }
-    ensures fault { IfErr result (λ fault. fault ≢ TableFault.Memory
-        → table_of_records (records_left reader.old) ≡ Err fault) }
+/// The layout of the records of bytes, the first of which is this heading.
+fn learn_layout(alloc: Global, bytes: &[u8], heads: &[Named]) -> Result<Layout, TableFault>
+    requires unmarked { strip_bom bytes.now ≡ bytes.now }
+    requires heads { AreHeads (records default_config bytes.now) heads.now }
+    ensures ok { IfOk result (λ layout. IsHeaded (records default_config bytes.now) layout.columns.items) }
+    ensures memory { IfErr result (λ fault. fault ≡ TableFault.Memory) }
 {
-    let mut row = ByteRecord::new(alloc);
-    if !next_row(reader, &mut row)? || row.is_empty() {
-        return Err(TableFault::NoHeading);
-    }
-    if row.len() > MOST_COLUMNS {
-        return Err(TableFault::TooManyColumns);
-    }
-    let heads = read_heading(alloc, &row)?;
-    let learned = learn_all(alloc, reader, heads.len())?;
-    let columns = complete(alloc, heads.as_slice(), learned.seen.as_slice())?;
+    let mut reader = plain_reader(alloc, bytes)?;
+    let mut heading = ByteRecord::new(alloc);
+    next_row(&mut reader, &mut heading)?;
+    let learned = learn_all(alloc, &mut reader, heads.len())?;
+    let columns = complete(alloc, heads, learned.seen.as_slice())?;
     Ok(Layout {
         columns,
         rows: learned.rows,
     })
-}
-
-/// A table of these columns with room for so many rows.
-fn empty_table(alloc: Global, columns: Vec<Column>, rows: u32) -> Result<Table, TableFault>
-    requires { IsHeading columns.items }
-    ensures ok { IfOk result (λ table. table ≡ record { columns = columns.items; rows = [] }) }
-    ensures memory { IfErr result (λ fault. fault ≡ TableFault.Memory) }
-{
-    let mut table = Table::new(alloc, columns)?;
-    table.reserve(rows)?;
-    Ok(table)
 }
 
 /// The table of the reader's records, the first of which is the heading that gives these columns,
@@ -142,14 +103,52 @@ fn read_below(
     let mut heading = ByteRecord::new(alloc);
     next_row(reader, &mut heading)?;
     let table = empty_table(alloc, columns, rows)?;
-    read_rows(alloc, reader, table)
+    let mut seen = Vec::new(alloc);
+    read_rows(alloc, reader, table, seen.as_mut_slice())
+}
+
+/// The table of bytes with this heading, in two passes over them: the columns, and then the rows.
+fn read_twice(alloc: Global, bytes: &[u8], heads: &[Named]) -> Result<Table, TableFault>
+    requires unmarked { strip_bom bytes.now ≡ bytes.now }
+    requires heads { AreHeads (records default_config bytes.now) heads.now }
+    ensures ok { IfOk result (λ table. table_of_records (records default_config bytes.now) ≡ Ok table) }
+    ensures fault { IfErr result (λ fault. fault ≢ TableFault.Memory
+        → table_of_records (records default_config bytes.now) ≡ Err fault) }
+{
+    let layout = learn_layout(alloc, bytes, heads)?;
+    let mut reader = plain_reader(alloc, bytes)?;
+    read_below(alloc, &mut reader, layout.columns, layout.rows)
+}
+
+/// What the front of a file says.
+#[derive(Drop)]
+struct Front {
+    /// What the heading says.
+    heads: Vec<Named>,
+    /// What the first records below it show of each column.
+    guess: Vec<Seen>,
+}
+
+/// The front of these bytes.
+fn read_front(alloc: Global, bytes: &[u8]) -> Result<Front, TableFault>
+    requires { strip_bom bytes.now ≡ bytes.now }
+    ensures heads { IfOk result (λ front. AreHeads (records default_config bytes.now) front.heads.items) }
+    ensures guess { IfOk result (λ front. IsLearned (length front.heads.items) front.guess.items) }
+    ensures fault { IfErr result (λ fault. fault ≢ TableFault.Memory
+        → table_of_records (records default_config bytes.now) ≡ Err fault) }
+{
+    let mut reader = plain_reader(alloc, bytes)?;
+    let heads = read_heads(alloc, &mut reader)?;
+    let guess = learn_first(alloc, &mut reader, heads.len())?;
+    Ok(Front { heads, guess })
 }
 
 /// The table of a file's bytes. All byte order marks EF BB BF at their beginning are passed over, and
 /// the rest is CSV: the first record is the heading, of 1 to 64 fields, and up to 4,000,000 records of
 /// as many fields follow.
 ///
-/// The bytes are read twice: the types of columns without marks hang on all their fields.
+/// The types of columns without marks hang on all their fields. They are guessed from the first
+/// records, and the bytes are read once more where the others show other types.
 ///
 /// # Errors
 /// The first fault, heading first and then by record and field; or `Memory`: there is no memory for
@@ -159,8 +158,9 @@ pub fn read_table(alloc: Global, bytes: &[u8]) -> Result<Table, TableFault>
     ensures fault { IfErr result (λ fault. fault ≢ TableFault.Memory → table_of_bytes bytes.now ≡ Err fault) }
 {
     let bytes = behind_order_marks(bytes);
-    let mut first = plain_reader(alloc, bytes)?;
-    let layout = read_layout(alloc, &mut first)?;
-    let mut second = plain_reader(alloc, bytes)?;
-    read_below(alloc, &mut second, layout.columns, layout.rows)
+    let front = read_front(alloc, bytes)?;
+    match read_once(alloc, bytes, front.heads.as_slice(), front.guess.as_slice())? {
+        Some(table) => Ok(table),
+        None => read_twice(alloc, bytes, front.heads.as_slice()),
+    }
 }

@@ -7,6 +7,7 @@ ghost use Rattle.table_csv.specs.Heading as spec;
 ghost use Rattle.table_csv.specs.Work.{learned, all_learned};
 ghost use Rattle.table_csv.specs.Work as work;
 
+use crate::digits::plain_integer;
 use csv::ByteRecord;
 use sq_value::{ColType, read_int};
 use std::str;
@@ -57,13 +58,23 @@ fn is_canonical_numeral(text: &[u8]) -> bool
     is_zero(text) || is_canonical_digits(without_minus(text))
 }
 
-/// A canonical numeral of 64 bits.
-fn is_canonical(field: &[u8]) -> bool
+/// A canonical numeral of 64 bits, told by its text.
+fn is_canonical_text(field: &[u8]) -> bool
     ensures { result ≡ spec.is_canonical field.now }
 {
     match str::from_utf8(field) {
         Ok(text) => is_canonical_numeral(field) && read_int(text).is_ok(),
         Err(_) => false,
+    }
+}
+
+/// A canonical numeral of 64 bits.
+fn is_canonical(field: &[u8]) -> bool
+    ensures { result ≡ spec.is_canonical field.now }
+{
+    match plain_integer(field) {
+        Some(_) => true,
+        None => is_canonical_text(field),
     }
 }
 

@@ -1,4 +1,4 @@
-use Rattle.std.proofs.Common.{◌≡◌, ◌≢◌, ◌+◌, List, [], ◌∷◌, ◌++◌, length, map, Some, None, sym, ap, ◌∙◌, subst, arith}
+use Rattle.std.proofs.Common.{◌≡◌, ◌≢◌, ◌+◌, List, [], ◌∷◌, ◌++◌, length, fold, map, Some, None, sym, ap, ◌∙◌, subst, arith}
 use Rattle.std.proofs.lemmas.List.{length_push}
 use Rattle.csv.specs.Records.{fields_of}
 use Rattle.sq_value.specs.Relation.{IsRow, Relation}
@@ -7,9 +7,11 @@ use Rattle.sq_value.specs.declared.value.Value.{Value}
 use Rattle.table_csv.specs.declared.fault.TableFault.TheVariants as fault
 use Rattle.table_csv.specs.Fields.{earlier_of, record_fault, records_fault, values_of}
 use Rattle.table_csv.specs.Reading.{records_left}
-use Rattle.table_csv.specs.Work.{ScalesFit}
+use Rattle.table_csv.specs.Work.{ScalesFit, all_learned}
+use Rattle.table_csv.specs.declared.types.Seen.{Seen}
 use Rattle.table_csv.proofs.FieldLemmas.{exit_with}
 use Rattle.table_csv.proofs.RowLemmas.{IsRow-values, record-fits, records-end, records-more, rows-more}
+use Rattle.table_csv.proofs.FrontLemmas.{known-end, known-next}
 use Rattle.table_csv.proofs.rows.read_rows.Goals as goal
 
 pub returns-in_err-read_record-clause-fault : goal.returns-in_err-read_record-clause-fault
@@ -60,6 +62,8 @@ loop-values-preserved c =
       none = c.in_ok-append_row.ensures.moved;
       fault = sym (ap (λ o. earlier_of o (records_fault (rec + 1) cs more)) taken)
           ∙ sym (records-more rec cs rows more found fs c.in_ok-next_row.ensures.gives c.if-branch.true) ∙ c.loop-values.invariant.fault;
+      learned = ap (λ (s : List Seen). fold all_learned s more) c.learn_record.ensures
+          ∙ known-next c.loop-values.seen rows more found fs c.in_ok-next_row.ensures.gives c.if-branch.true ∙ c.loop-values.invariant.learned;
     }
 
 pub returns-clause-taken : goal.returns-clause-taken
@@ -67,3 +71,8 @@ returns-clause-taken c =
     sym c.loop-values.invariant.fault
     ∙ records-end c.loop-values.rec c.args.table.columns (records_left c.loop-values.reader) (records_left c.next_row.new.reader) c.in_ok-next_row.field-0
     (fields_of c.next_row.new.row) c.in_ok-next_row.ensures.gives c.if-branch.false
+
+pub returns-clause-learned : goal.returns-clause-learned
+returns-clause-learned c =
+    known-end c.loop-values.seen (records_left c.loop-values.reader) (records_left c.next_row.new.reader) c.in_ok-next_row.field-0 (fields_of c.next_row.new.row)
+    c.in_ok-next_row.ensures.gives c.if-branch.false ∙ c.loop-values.invariant.learned

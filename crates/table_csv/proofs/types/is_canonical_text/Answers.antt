@@ -1,7 +1,7 @@
 use Rattle.table_csv.proofs.TypeLemmas.{canonical-is, canonical-not_utf8}
 use Rattle.std.proofs.Common.{ap, ◌∙◌}
 use Rattle.std.specs.Prelude.{is_ok}
-use Rattle.table_csv.proofs.types.is_canonical.Goals as goal
+use Rattle.table_csv.proofs.types.is_canonical_text.Goals as goal
 
 pub returns-then-is_canonical_numeral : goal.returns-then-is_canonical_numeral
 returns-then-is_canonical_numeral c =

@@ -4,7 +4,7 @@ use Rattle.table_csv.specs.declared.heading.Named.{Named}
 use Rattle.table_csv.specs.declared.types.Seen.TheVariants as seen
 use Rattle.table_csv.specs.Work.{column_of_head, completed}
 use Rattle.table_csv.proofs.HeadLemmas.{completed-end, completed-more}
-use Rattle.table_csv.proofs.reading.complete.Goals as goal
+use Rattle.table_csv.proofs.columns.complete.Goals as goal
 
 pub loop-i-preserved : goal.loop-i-preserved
 loop-i-preserved c =

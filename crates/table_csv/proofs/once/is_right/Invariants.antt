@@ -1,0 +1,7 @@
+use Rattle.std.proofs.Common.{◌≡◌, drop}
+use Rattle.table_csv.specs.Work.{completed}
+use Rattle.table_csv.proofs.once.is_right.Given as goal
+
+abbrev pub invariant-loop-i : goal.invariant-loop-i
+invariant-loop-i l =
+    completed (drop l.i l.heads) (drop l.i l.guess) ≡ completed (drop l.i l.heads) (drop l.i l.seen) → completed l.heads l.guess ≡ completed l.heads l.seen
