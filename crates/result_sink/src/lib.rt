@@ -1,6 +1,7 @@
 //! The answer of a block in its order, and its text as CSV.
 #![tactic(auto)]
 
+mod ahead;
 mod arranging;
 mod cell;
 mod comparing;

@@ -8,6 +8,7 @@ ghost use Rattle.outside.specs.Faults.{NeverFalls, RoseOrFull};
 ghost use Rattle.outside.specs.Told.{Adds, AddsFront};
 ghost use Rattle.result_sink.specs.Ready.{IsShown, rows_of_combo, record_text};
 
+use crate::ahead::read_shown;
 use crate::fault::WriteFault;
 use crate::record::{heading_line, record_line};
 use bag_meaning::Combo;
@@ -69,6 +70,13 @@ fn put_record<O: Sink>(
     put_line(line, out)
 }
 
+/// Keeps what was read ahead. No clause says what the line is then, since a record begins anew.
+fn keep_read(line: &mut Vec<u8>, read: u64) {
+    if read == u64::MAX && line.reserve(1).is_err() {
+        line.clear();
+    }
+}
+
 /// A put for each combination, in order.
 fn put_records<O: Sink>(
     line: &mut Vec<u8>,
@@ -86,7 +94,10 @@ fn put_records<O: Sink>(
         (flat_map (record_text block.now tables.now) combos.now)) }
     ensures kept { OnOk result (O.faults out.new ≡ O.faults out.old) }
 {
+    let mut place = 0usize;
     for combo in combos {
+        keep_read(line, read_shown(block, tables, combos, place));
+        place = place.wrapping_add(1);
         put_record(line, block, tables, combo, out)?;
     }
     Ok(())

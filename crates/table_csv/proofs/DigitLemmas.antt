@@ -1,17 +1,20 @@
 -- Fields of digits alone, and the integers that they write.
-use Rattle.std.proofs.Common.{◌≡◌, ℕ, zero, suc, ◌+◌, ◌*◌, ◌<◌, ◌≤◌, Bool, true, false, leb, List, [], ◌∷◌, length, drop, get_or, ℤ, pos, Option, Some, None, Ok, cond, refl, sym, ap, ◌∙◌, subst, arith, w64}
+use Rattle.std.proofs.Common.{◌≡◌, ℕ, zero, suc, ◌+◌, ◌*◌, ◌^◌, ◌<◌, ◌≤◌, Bool, true, false, leb, List, [], ◌∷◌, length, drop, get_or, ℤ, pos, Option, Some, None, Ok, cond, refl, sym, ap, ◌∙◌, subst, arith, w64}
 use Rattle.std.specs.Prelude.{FitsSigned, IfSome, IsUtf8, slice_index, is_ok, not, ◌&&◌, ◌||◌, ◌==◌, nat_lt}
 use Rattle.std.specs.Char.{digit_value, is_ascii_digit}
 use Rattle.std.specs.Str.{IsAscii, is_utf8}
 use Rattle.std.specs.Str.Parse.{digits_value, digits_value_after, signed_digits_value, starts_with_minus, without_leading_sign}
 use Rattle.std.proofs.lemmas.Bool.{leb-true, lt-ltb, ltb-true, ne_eqb}
+use Rattle.std.proofs.Math.Nat.{pow-le-pow_right}
 use Rattle.std.proofs.lemmas.Int.{to_z-of_z}
+use Rattle.std.proofs.lemmas.Int.Digits.{digits_value-lt}
 use Rattle.std.proofs.lemmas.List.{drop_more}
 use mir.Val.{to_z, of_z}
 use Rattle.std.proofs.lemmas.Str.{IsUtf8-from_ascii, is_utf8-from_IsUtf8}
 use Rattle.sq_value.specs.Numeral.{all_digits, is_numeral, number_read}
 use Rattle.sq_value.specs.declared.value.Value.TheVariants as value
 use Rattle.sq_value.specs.declared.value.ColType.TheVariants as kind
+use Rattle.sq_value.proofs.NumeralLemmas.{AllDigits-from_all_digits}
 use Rattle.table_csv.specs.Fields.{field_fault, is_null_field, value_of}
 use Rattle.table_csv.specs.Heading.{is_canonical}
 
@@ -101,6 +104,19 @@ plain-number (Some z) ds n plain is e digits value same few =
 pub plain-fits : (r : Option ℤ) (n : ℕ) → IfSome r (λ z. z ≡ pos n) → IfSome r (λ _. n < 9223372036854775808) → IfSome r (λ z. FitsSigned w64 z)
 plain-fits None n same few = tt
 plain-fits (Some z) n same few = subst (FitsSigned w64) (sym same) record { sfits = few }
+
+-- up to 18 digits are a number of 63 bits
+few-digits : (ds : List ℕ) → all_digits ds ≡ true → length ds ≤ 18 → digits_value 10 ds < 9223372036854775808
+few-digits ds e few =
+    let below = digits_value-lt 10 ds (AllDigits-from_all_digits ds e) in
+    let most : 10 ^ length ds ≤ 10 ^ 18 = pow-le-pow_right {n = 10} (omega arith) few in
+    omega (arith, below, most)
+
+pub short-canonical : (ds : List ℕ) (plain : Bool) → plain ≡ (nat_lt 0 (length ds) && ((length ds == 1) || not (slice_index ds 0 == 48))) → plain ≡ true
+    → length ds ≤ 18 → all_digits ds ≡ true → is_canonical ds ≡ true
+short-canonical ds plain is e few digits =
+    let parts = plain_parts ds plain is e in
+    canonical-digits ds (digits_value 10 ds) digits parts.0 refl (few-digits ds digits few) parts.1
 
 -- what the digits from one on say, the whole says
 pub digits-more : (ds : List ℕ) (i : ℕ) → i < length ds → is_ascii_digit (get_or ds i 0) ≡ true → all_digits (drop (i + 1) ds) ≡ true → all_digits (drop i ds) ≡ true

@@ -6,6 +6,11 @@ ghost use Rattle.std.specs.Str.Parse.{digits_value};
 ghost use Rattle.sq_value.specs.Numeral.{all_digits, number_read};
 ghost use Rattle.table_csv.specs.Heading.{is_canonical};
 
+use crate::types::is_digits;
+
+/// How many digits are always a number of 63 bits.
+const SHORT: usize = 18;
+
 /// A number with one digit more. None where the byte is no digit or the number has more than 64 bits.
 fn value_with(value: u64, digit: u8) -> Option<u64>
     ensures digit { IfSome result (λ _. is_ascii_digit digit ≡ true) }
@@ -65,4 +70,15 @@ pub(crate) fn plain_integer(field: &[u8]) -> Option<i64>
         Some(size) => signed(size),
         None => None,
     }
+}
+
+/// Whether a field is one of up to 18 digits and the canonical text of an integer. A false answer says
+/// nothing.
+pub(crate) fn is_short_integer(field: &[u8]) -> bool
+    ensures { result ≡ true → is_canonical field.now ≡ true }
+{
+    if field.len() > SHORT || !begins_plainly(field) {
+        return false;
+    }
+    is_digits(field)
 }

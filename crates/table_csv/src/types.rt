@@ -7,7 +7,7 @@ ghost use Rattle.table_csv.specs.Heading as spec;
 ghost use Rattle.table_csv.specs.Work.{learned, all_learned};
 ghost use Rattle.table_csv.specs.Work as work;
 
-use crate::digits::plain_integer;
+use crate::digits::is_short_integer;
 use csv::ByteRecord;
 use sq_value::{ColType, read_int};
 use std::str;
@@ -23,7 +23,8 @@ pub(crate) enum Seen {
     Other,
 }
 
-fn is_digits(text: &[u8]) -> bool
+/// Whether each byte is an ASCII digit.
+pub(crate) fn is_digits(text: &[u8]) -> bool
     ensures { result ≡ all_digits text.now }
 {
     text.iter().all(|byte| byte.is_ascii_digit())
@@ -72,10 +73,10 @@ fn is_canonical_text(field: &[u8]) -> bool
 fn is_canonical(field: &[u8]) -> bool
     ensures { result ≡ spec.is_canonical field.now }
 {
-    match plain_integer(field) {
-        Some(_) => true,
-        None => is_canonical_text(field),
+    if is_short_integer(field) {
+        return true;
     }
+    is_canonical_text(field)
 }
 
 /// What is known after one field more.
