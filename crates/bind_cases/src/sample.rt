@@ -1,17 +1,13 @@
-//! The tables, the predicates and the ways to reach a table that statements are bound over.
+//! The tables and the predicates that statements are bound over.
 
-ghost use Rattle.std.specs.Prelude.{◌≡◌, ◌<◌, length, true, slice_get, IsSome, IfSome};
-ghost use Rattle.sq_expr.specs.Fits.{FitsAlias, column_kind};
-ghost use Rattle.sq_bind.specs.Given.{AreAccesses};
+ghost use Rattle.std.specs.Prelude.{◌≡◌, IsSome, IfSome};
 ghost use Rattle.sq_value.specs.Name.{lower};
 ghost use Rattle.bind_cases.specs.Sample.{sample_kinds, integers_at, others_at};
 
+use case_kit::{CaseFault, catalogue_of_lines};
 use catalogue::Catalogue;
-use sq_expr::Access;
-use sq_value::{ColType, Kinds, Predicates, Table, Tables, Truth, Value, same_name};
+use sq_value::{ColType, Kinds, Predicates, Truth, Value, same_name};
 use std::alloc::Global;
-use std::test::Fail;
-use table_csv::read_table;
 
 /// The tables, by number from 0: a name, and a heading with the types of its columns.
 const TABLES: &str = "\
@@ -29,78 +25,8 @@ sale part:int,qty:int
 stock part:int,held:int";
 
 /// The catalogue of these tables, which have no rows.
-pub fn catalogue(alloc: Global) -> Result<Catalogue, Fail> {
-    let mut catalogue = Catalogue::new(alloc);
-    for line in TABLES.lines() {
-        let (name, heading) = line.split_once(' ').unwrap_or(("", ""));
-        let Ok(table) = read_table(alloc, heading.as_bytes()) else {
-            return Ok(catalogue);
-        };
-        if catalogue.tables().len() > 99 {
-            return Ok(catalogue);
-        }
-        let _added = catalogue.add(name, table);
-    }
-    Ok(catalogue)
-}
-
-// How a table is reached: `s` is a scan, a number a look-up by that column, and `s1` both.
-fn access_of(word: &str) -> Access {
-    let scan = word.starts_with('s');
-    let column = word.strip_prefix('s').unwrap_or(word);
-    Access {
-        scan,
-        look_up: column.parse::<u32>().ok(),
-    }
-}
-
-/// How each table is reached, by words with a blank between.
-pub fn accesses_of(alloc: Global, words: &str) -> Result<Vec<Access>, Fail> {
-    let mut accesses = Vec::new(alloc);
-    for word in words.split(' ') {
-        accesses.push(access_of(word))?;
-    }
-    Ok(accesses)
-}
-
-// Whether a table has a column of this number.
-fn is_there(table: &Table, column: u32) -> bool
-    ensures { result ≡ true → IsSome (slice_get table.now.columns column) }
-{
-    (column as usize) < table.columns().len()
-}
-
-fn has_column(tables: &Tables, table: u32, column: Option<u32>) -> bool
-    requires { table < length tables.now }
-    ensures { result ≡ true → IfSome column (λ column. IsSome (column_kind tables.now table column)) }
-{
-    match column {
-        Some(column) => is_there(tables.get(table), column),
-        None => true,
-    }
-}
-
-// Whether a table has the access.
-fn fits(tables: &Tables, table: u32, access: &Access) -> bool
-    requires { table < length tables.now }
-    ensures { result ≡ true → FitsAlias tables.now record { table = table; access = access.now } }
-{
-    (access.scan || access.look_up.is_some()) && has_column(tables, table, access.look_up)
-}
-
-/// Whether each table has its access.
-pub fn are_accesses(tables: &Tables, accesses: &[Access]) -> bool
-    ensures { result ≡ true → AreAccesses tables.now accesses.now }
-{
-    if accesses.len() != tables.len() as usize {
-        return false;
-    }
-    for (table, access) in accesses.iter().enumerate() {
-        if !fits(tables, table as u32, access) {
-            return false;
-        }
-    }
-    true
+pub fn catalogue(alloc: Global) -> Result<Catalogue, CaseFault> {
+    catalogue_of_lines(alloc, TABLES)
 }
 
 // The number of a predicate of integers.

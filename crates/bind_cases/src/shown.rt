@@ -7,19 +7,11 @@
 //! - Each sort key: the column, `up` or `down`, and whether nulls come `first` or `last`.
 //! - Each conjunct, with `@` and its aliases as a number of bits. A sum stands in brackets.
 
+use case_kit::push_listed;
 use sq_expr::{AliasUse, Arg, Block, ColumnOf, Cond, Conjunct, OrderKey, OutCol, Side, Term};
 use sq_value::Value;
 use std::alloc::Global;
 use std::test::Fail;
-
-// Another part of a list, with what stands between two.
-fn push_part(text: &mut String, between: &str, part: &str) -> Result<(), Fail> {
-    if !text.is_empty() {
-        text.push_str(between)?;
-    }
-    text.push_str(part)?;
-    Ok(())
-}
 
 fn alias_text(alloc: Global, one: &AliasUse) -> Result<String, Fail> {
     let table = one.table;
@@ -33,7 +25,7 @@ fn alias_text(alloc: Global, one: &AliasUse) -> Result<String, Fail> {
 fn aliases_text(alloc: Global, aliases: &[AliasUse]) -> Result<String, Fail> {
     let mut text = String::new(alloc);
     for one in aliases {
-        push_part(&mut text, " ", alias_text(alloc, one)?.as_str())?;
+        push_listed(&mut text, " ", alias_text(alloc, one)?.as_str())?;
     }
     Ok(text)
 }
@@ -43,7 +35,7 @@ fn output_text(alloc: Global, output: &[OutCol]) -> Result<String, Fail> {
     for one in output {
         let (alias, column, name) = (one.alias, one.column, one.name.as_str());
         let part = format!(in alloc; "{alias}.{column} {name}")?;
-        push_part(&mut text, ", ", part.as_str())?;
+        push_listed(&mut text, ", ", part.as_str())?;
     }
     Ok(text)
 }
@@ -55,7 +47,7 @@ fn order_text(alloc: Global, order: &[OrderKey]) -> Result<String, Fail> {
         let way = if key.way.descending { "down" } else { "up" };
         let nulls = if key.way.nulls_first { "first" } else { "last" };
         let part = format!(in alloc; "{alias}.{column} {way} {nulls}")?;
-        push_part(&mut text, ", ", part.as_str())?;
+        push_listed(&mut text, ", ", part.as_str())?;
     }
     Ok(text)
 }
@@ -79,7 +71,7 @@ fn term_text(alloc: Global, term: &Term) -> Result<String, Fail> {
 fn sum_text(alloc: Global, terms: &[Term]) -> Result<String, Fail> {
     let mut text = String::new(alloc);
     for term in terms {
-        push_part(&mut text, " ", term_text(alloc, term)?.as_str())?;
+        push_listed(&mut text, " ", term_text(alloc, term)?.as_str())?;
     }
     Ok(format!(in alloc; "[{text}]")?)
 }
@@ -119,7 +111,7 @@ fn arg_text(alloc: Global, arg: &Arg) -> Result<String, Fail> {
 fn parts_text(alloc: Global, parts: &[Cond]) -> Result<String, Fail> {
     let mut text = String::new(alloc);
     for part in parts {
-        push_part(&mut text, "; ", cond_text(alloc, part)?.as_str())?;
+        push_listed(&mut text, "; ", cond_text(alloc, part)?.as_str())?;
     }
     Ok(text)
 }
@@ -165,7 +157,7 @@ fn conjuncts_text(alloc: Global, conjuncts: &[Conjunct]) -> Result<String, Fail>
     for one in conjuncts {
         let cond = cond_text(alloc, &one.cond)?;
         let part = format!(in alloc; "{cond} @{}", one.span)?;
-        push_part(&mut text, ", ", part.as_str())?;
+        push_listed(&mut text, ", ", part.as_str())?;
     }
     Ok(text)
 }

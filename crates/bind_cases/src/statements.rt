@@ -3,8 +3,9 @@
 ghost use Rattle.std.specs.Prelude.{◌<◌, length, All};
 ghost use Rattle.sq_bind.specs.Given.{IsParsed, AreAccesses};
 
-use crate::sample::{Sample, accesses_of, are_accesses, catalogue};
+use crate::sample::{Sample, catalogue};
 use crate::shown::shown;
+use case_kit::{are_ways_of, ways_of_words};
 use catalogue::Catalogue;
 use sq_bind::{BindFault, bind};
 use sq_expr::{Access, Block};
@@ -158,8 +159,8 @@ fn wrong_of(
     catalogue: &Catalogue,
     group: &Group,
 ) -> Result<String, Fail> {
-    let accesses = accesses_of(alloc, group.accesses)?;
-    if !are_accesses(catalogue.tables(), accesses.as_slice()) {
+    let accesses = ways_of_words(alloc, group.accesses)?;
+    if !are_ways_of(catalogue.tables(), accesses.as_slice()) {
         return Ok(String::from_str(alloc, "no accesses")?);
     }
     wrong_case(alloc, asked, catalogue, accesses.as_slice(), group)

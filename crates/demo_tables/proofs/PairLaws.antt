@@ -7,7 +7,7 @@ use Rattle.sq_value.specs.Relation.{Relation, HasKind}
 use Rattle.sq_value.specs.declared.value.Value.{Value}
 use Rattle.sq_value.specs.declared.value.Value.TheVariants.{Null}
 use Rattle.sq_value.specs.declared.value.ColType.TheVariants.{Integer}
-use Rattle.demo_tables.specs.Demo.{pair_table, TakesPair, held, number}
+use Rattle.demo_tables.specs.Demo.{pair_table, TakesPair, held, whole_number}
 
 -- such a table takes two integers, one of which may be null
 pub pairs_fit : (a b : List ℕ) (row : ℕ → List Value) (n : ℕ) (t : Relation) (x y : Value) → t ≡ pair_table a b row n → HasKind Integer x → HasKind Integer y
@@ -36,9 +36,9 @@ pairs_more a b row n t new x y v w e p q f g =
 pub held_fits : (i : ℕ) (y : Value) → y ≡ held i → HasKind Integer y
 held_fits i y e = subst (HasKind Integer) (sym e) (by (i % 100 == 99))
   where
-    by : (b : Bool) → HasKind Integer (cond b Null (number (i % 100)))
+    by : (b : Bool) → HasKind Integer (cond b Null (whole_number (i % 100)))
     by true = tt
     by false = tt
 
-pub number_fits : (n : ℕ) (y : Value) → y ≡ number n → HasKind Integer y
+pub number_fits : (n : ℕ) (y : Value) → y ≡ whole_number n → HasKind Integer y
 number_fits n y e = subst (HasKind Integer) (sym e) tt

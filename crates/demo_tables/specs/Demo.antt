@@ -21,24 +21,24 @@ pair_table first second row count =
     }
 
 -- a natural number as a value
-abbrev pub number : ℕ → Value
-number n = Int (pos n)
+abbrev pub whole_number : ℕ → Value
+whole_number n = Int (pos n)
 
 -- row i of the parts: its number, and one of ten kinds
 abbrev pub part_row : ℕ → ℕ → List Value
-part_row shift i = number i ∷ number ((i + shift) % 10) ∷ []
+part_row shift i = whole_number i ∷ whole_number ((i + shift) % 10) ∷ []
 
 -- row i of the sales: a part, and how many
 abbrev pub sale_row : ℕ → ℕ → ℕ → List Value
-sale_row count shift i = number ((7 * i + shift) % count) ∷ number (i % 100) ∷ []
+sale_row count shift i = whole_number ((7 * i + shift) % count) ∷ whole_number (i % 100) ∷ []
 
 -- how many are held, which is unknown in each hundredth row
 abbrev pub held : ℕ → Value
-held i = if i % 100 == 99 then Null else number (i % 100)
+held i = if i % 100 == 99 then Null else whole_number (i % 100)
 
 -- row i of the stock: a part, and how many are held
 abbrev pub stock_row : ℕ → ℕ → ℕ → List Value
-stock_row count shift i = number ((11 * i + shift) % count) ∷ held i ∷ []
+stock_row count shift i = whole_number ((11 * i + shift) % count) ∷ held i ∷ []
 
 -- the three tables of so many rows
 abbrev pub part : ℕ → ℕ → Relation

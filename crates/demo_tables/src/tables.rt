@@ -33,7 +33,7 @@ fn empty_pairs(alloc: Global, first: &str, second: &str) -> Result<Table, Memory
 }
 
 fn number(n: u32) -> Value
-    ensures { result ≡ spec.number n }
+    ensures { result ≡ spec.whole_number n }
 {
     Value::Int(n as i64)
 }

@@ -6,10 +6,11 @@ ghost use Rattle.eddy_meaning.specs.Faithful.{IsSound};
 ghost use Rattle.eddy_meaning.specs.Route.{IsLegal};
 ghost use Rattle.module_cases.specs.Given.{IsGiven, IsModuleOf};
 
-use crate::given::{accesses_of, block_of, catalogue_of};
+use crate::given::block_of;
 use crate::modules::{enter, probed};
-use crate::shown::{push_part, routes_text, tuple_text, tuples_text, via_text};
+use crate::shown::{routes_text, tuple_text, tuples_text, via_text};
 use crate::tuples::{selected, tuple_of};
+use case_kit::{catalogue_of_lines, push_listed};
 use eddy_meaning::Entry;
 use routing_rules::{hop_bound, routes};
 use sq_expr::Block;
@@ -226,7 +227,7 @@ fn selections_answer(
     for route in legal {
         if let Route::Select(conjunct) = *route {
             let part = selection_text(alloc, block, tables, tuple, conjunct)?;
-            push_part(&mut text, "; ", part.as_str())?;
+            push_listed(&mut text, "; ", part.as_str())?;
         }
     }
     if text.is_empty() {
@@ -279,7 +280,7 @@ fn probes_answer(
     for route in legal {
         let part = probe_text(alloc, block, tables, alias, stem, tuple, *route)?;
         if !part.is_empty() {
-            push_part(&mut text, "; ", part.as_str())?;
+            push_listed(&mut text, "; ", part.as_str())?;
         }
     }
     Ok(text)
@@ -365,9 +366,8 @@ fn wrong_over(alloc: Global, block: &Block, tables: &Tables, group: &Group) -> R
 }
 
 fn wrong_of(alloc: Global, group: &Group) -> Result<String, Fail> {
-    let catalogue = catalogue_of(alloc, TABLES)?;
-    let accesses = accesses_of(alloc, group.accesses)?;
-    let Some(block) = block_of(alloc, &catalogue, accesses.as_slice(), group.query) else {
+    let catalogue = catalogue_of_lines(alloc, TABLES)?;
+    let Some(block) = block_of(alloc, &catalogue, group.accesses, group.query)? else {
         return Ok(String::from_str(alloc, "no block")?);
     };
     wrong_over(alloc, &block, catalogue.tables(), group)

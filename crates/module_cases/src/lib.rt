@@ -14,7 +14,6 @@ mod list_module;
 #[cfg(test)]
 mod modules;
 #[cfg(test)]
-#[cfg(test)]
 mod random;
 #[cfg(test)]
 mod shown;

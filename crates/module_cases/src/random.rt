@@ -10,10 +10,11 @@ ghost use Rattle.eddy_meaning.specs.Faithful.{IsSound};
 ghost use Rattle.eddy_meaning.specs.Route.{IsLegal};
 ghost use Rattle.module_cases.specs.Given.{IsGiven, IsModuleOf};
 
-use crate::given::{accesses_of, block_of, catalogue_of};
+use crate::given::block_of;
 use crate::list_module::ListModule;
 use crate::modules::{enter, probed};
 use crate::tuples::{Step, arrived, stepped};
+use case_kit::catalogue_of_lines;
 use eddy_meaning::Entry;
 use routing_rules::routes;
 use sq_expr::Block;
@@ -292,11 +293,10 @@ fn try_block(alloc: Global, block: &Block, tables: &Tables, draw: &mut Draw) -> 
 // Counts the probes over a random block, if the statement has one.
 fn try_statement(alloc: Global, draw: &mut Draw) -> Result<(), Fail> {
     let tables = words::tables(alloc, draw)?;
-    let catalogue = catalogue_of(alloc, tables.as_str())?;
+    let catalogue = catalogue_of_lines(alloc, tables.as_str())?;
     let accesses = words::accesses(alloc, draw)?;
-    let accesses = accesses_of(alloc, accesses.as_str())?;
     let query = words::query(alloc, draw)?;
-    let Some(block) = block_of(alloc, &catalogue, accesses.as_slice(), query.as_str()) else {
+    let Some(block) = block_of(alloc, &catalogue, accesses.as_str(), query.as_str())? else {
         return Ok(());
     };
     draw.blocks = draw.blocks.saturating_add(1);

@@ -1,17 +1,9 @@
 //! Routes and tuples as text.
 
+use case_kit::push_listed;
 use std::alloc::Global;
 use std::test::Fail;
 use tuple_span::{Route, Tuple, Via};
-
-/// Puts another part of a list behind the others, with what stands between two.
-pub fn push_part(text: &mut String, between: &str, part: &str) -> Result<(), Fail> {
-    if !text.is_empty() {
-        text.push_str(between)?;
-    }
-    text.push_str(part)?;
-    Ok(())
-}
 
 /// How a probe finds its entries.
 pub fn via_text(alloc: Global, via: Via) -> Result<String, Fail> {
@@ -39,7 +31,7 @@ pub fn routes_text(alloc: Global, routes: &[Route]) -> Result<String, Fail> {
     let mut text = String::new(alloc);
     for route in routes {
         let part = route_text(alloc, *route)?;
-        push_part(&mut text, ", ", part.as_str())?;
+        push_listed(&mut text, ", ", part.as_str())?;
     }
     Ok(text)
 }
@@ -49,7 +41,7 @@ fn push_rows(alloc: Global, text: &mut String, tuple: &Tuple) -> Result<(), Fail
     for alias in 0..12 {
         if let Some(row) = tuple.part(alias) {
             let part = format!(in alloc; "{alias}:{row}")?;
-            push_part(text, " ", part.as_str())?;
+            push_listed(text, " ", part.as_str())?;
         }
     }
     Ok(())
@@ -60,7 +52,7 @@ fn push_done(alloc: Global, text: &mut String, tuple: &Tuple) -> Result<(), Fail
     for conjunct in 0..48 {
         if tuple.done(conjunct) {
             let part = format!(in alloc; "+{conjunct}")?;
-            push_part(text, " ", part.as_str())?;
+            push_listed(text, " ", part.as_str())?;
         }
     }
     Ok(())
@@ -72,12 +64,12 @@ pub fn tuple_text(alloc: Global, tuple: &Tuple) -> Result<String, Fail> {
     push_rows(alloc, &mut text, tuple)?;
     if let Some(stamp) = tuple.stamp() {
         let part = format!(in alloc; "@{stamp}")?;
-        push_part(&mut text, " ", part.as_str())?;
+        push_listed(&mut text, " ", part.as_str())?;
     }
     push_done(alloc, &mut text, tuple)?;
     let hops = tuple.hops();
     let part = format!(in alloc; "hops {hops}")?;
-    push_part(&mut text, " ", part.as_str())?;
+    push_listed(&mut text, " ", part.as_str())?;
     Ok(text)
 }
 
@@ -89,7 +81,7 @@ pub fn tuples_text(alloc: Global, tuples: &[Tuple]) -> Result<String, Fail> {
     let mut text = String::new(alloc);
     for tuple in tuples {
         let part = tuple_text(alloc, tuple)?;
-        push_part(&mut text, ", ", part.as_str())?;
+        push_listed(&mut text, ", ", part.as_str())?;
     }
     Ok(text)
 }

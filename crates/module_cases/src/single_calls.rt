@@ -4,9 +4,9 @@ ghost use Rattle.std.specs.Prelude.{◌≡◌, ◌<◌, true, length, IfOk};
 ghost use Rattle.sq_value.specs.Key.{rank_of_key};
 ghost use Rattle.module_cases.specs.Given.{IsGiven, IsModuleOf, HasNone};
 
-use crate::given::{accesses_of, block_of, catalogue_of};
-use crate::shown::push_part;
+use crate::given::block_of;
 use crate::tuples::use_of;
+use case_kit::{catalogue_of_lines, push_listed};
 use index_source::{Lookup, lookup_law};
 use scan_source::Scan;
 use sq_expr::Block;
@@ -46,14 +46,14 @@ fn rows_text(alloc: Global, table: &Table, column: u32, keys: &[Key<'_>]) -> Res
     let lookup = Lookup::new(alloc, table, column)?;
     for key in keys {
         let rows = lookup.rows(key);
-        push_part(&mut text, " ", format!(in alloc; "{rows:?}")?.as_str())?;
+        push_listed(&mut text, " ", format!(in alloc; "{rows:?}")?.as_str())?;
     }
     Ok(text)
 }
 
 // The first table of a catalogue, by its line.
 fn rows_in(alloc: Global, column: u32, keys: &[Key<'_>]) -> Result<String, Fail> {
-    let catalogue = catalogue_of(alloc, ORDERS)?;
+    let catalogue = catalogue_of_lines(alloc, ORDERS)?;
     if catalogue.tables().len() == 0 {
         return Ok(String::new(alloc));
     }
@@ -161,9 +161,8 @@ fn ended(
 
 #[test]
 fn keys_are_asked_for_once(rt: HostRuntime) -> Result<(), Fail> {
-    let catalogue = catalogue_of(rt.alloc(), LOOKED_UP)?;
-    let accesses = accesses_of(rt.alloc(), "s 1")?;
-    let Some(block) = block_of(rt.alloc(), &catalogue, accesses.as_slice(), JOIN) else {
+    let catalogue = catalogue_of_lines(rt.alloc(), LOOKED_UP)?;
+    let Some(block) = block_of(rt.alloc(), &catalogue, "s 1", JOIN)? else {
         panic!(rt; "no block")
     };
     let keys = [
@@ -181,9 +180,8 @@ fn keys_are_asked_for_once(rt: HostRuntime) -> Result<(), Fail> {
 
 #[test]
 fn keys_are_ended(rt: HostRuntime) -> Result<(), Fail> {
-    let catalogue = catalogue_of(rt.alloc(), LOOKED_UP)?;
-    let accesses = accesses_of(rt.alloc(), "s 1")?;
-    let Some(block) = block_of(rt.alloc(), &catalogue, accesses.as_slice(), JOIN) else {
+    let catalogue = catalogue_of_lines(rt.alloc(), LOOKED_UP)?;
+    let Some(block) = block_of(rt.alloc(), &catalogue, "s 1", JOIN)? else {
         panic!(rt; "no block")
     };
     let met = ended(

@@ -1,7 +1,7 @@
 //! Random tables, ways to reach them and statements, as text.
 
 use super::Draw;
-use crate::shown::push_part;
+use case_kit::push_listed;
 use std::alloc::Global;
 use std::test::Fail;
 
@@ -105,7 +105,7 @@ pub fn query(alloc: Global, draw: &mut Draw) -> Result<String, Fail> {
     let mut condition = String::new(alloc);
     for _ in 0..2 + u32::from(draw.below(4)) {
         let part = conjunct(alloc, draw, three)?;
-        push_part(&mut condition, " AND ", part.as_str())?;
+        push_listed(&mut condition, " AND ", part.as_str())?;
     }
     Ok(format!(in alloc; "SELECT a.x FROM {sources} WHERE {condition}")?)
 }

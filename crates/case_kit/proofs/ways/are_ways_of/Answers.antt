@@ -1,7 +1,7 @@
 use Rattle.std.proofs.Common.{◌∙◌, arith}
 use Rattle.std.proofs.lemmas.Option.{slice_get_within}
-use Rattle.module_cases.proofs.GivenLemmas.{next_fits}
-use Rattle.module_cases.proofs.given.are_accesses.Goals as goal
+use Rattle.case_kit.proofs.WayLemmas.{next_fits}
+use Rattle.case_kit.proofs.ways.are_ways_of.Goals as goal
 
 pub loop-table-preserved : goal.loop-table-preserved
 loop-table-preserved c =

@@ -1,7 +1,7 @@
 use Rattle.std.proofs.Common.{◌≡◌, ◌<◌, Some, slice_get, ℕ}
 use Rattle.sq_expr.specs.Fits.{FitsAlias}
 use Rattle.sq_expr.specs.declared.block.Access.{Access}
-use Rattle.bind_cases.proofs.sample.are_accesses.Given as goal
+use Rattle.case_kit.proofs.ways.are_ways_of.Given as goal
 
 abbrev pub invariant-loop-table : goal.invariant-loop-table
 invariant-loop-table l =

@@ -1,0 +1,4 @@
+pub mod Blocks
+pub mod Listing
+pub mod Tables
+pub mod Ways
