@@ -165,3 +165,43 @@ fn columns_up_to_64(rt: HostRuntime) -> Result<(), Fail> {
     assert_eq!(rt; refused.as_str(), "TooManyColumns");
     Ok(())
 }
+
+/// A text, another 70 times, and a last one.
+fn repeated(alloc: Global, first: &str, again: &str, last: &str) -> Result<String, AllocError> {
+    let mut text = String::from_str(alloc, first)?;
+    for _ in 0..70 {
+        text.push_str(again)?;
+    }
+    text.push_str(last)?;
+    Ok(text)
+}
+
+#[test]
+fn types_that_70_records_hide(rt: HostRuntime) -> Result<(), Fail> {
+    let cases: [([&str; 3], [&str; 3]); 8] = [
+        (["x\n", "1\n", "a\n"], ["x t ", "/ '1' ", "/ 'a' "]),
+        (["x\n", "1\n", "01\n"], ["x t ", "/ '1' ", "/ '01' "]),
+        (["x\n", "-1\n", "20\n"], ["x i ", "/ -1 ", "/ 20 "]),
+        (["x,y\n", ",1\n", "5,2\n"], ["x i y i ", "/ ~ 1 ", "/ 5 2 "]),
+        (
+            ["x,y\n", "7,b\n", "8,9\n"],
+            ["x i y t ", "/ 7 'b' ", "/ 8 '9' "],
+        ),
+        (
+            ["x,y\n", "7,\n", "a,\n"],
+            ["x t y t ", "/ '7' ~ ", "/ 'a' ~ "],
+        ),
+        (
+            ["x:int\n", "1\n", "a\n"],
+            ["BadInteger { rec: 71, field: 1 }", "", ""],
+        ),
+        (["x\n", "1\n", "1,2\n"], ["Unequal { rec: 71 }", "", ""]),
+    ];
+    for (file, want) in cases {
+        let bytes = repeated(rt.alloc(), file[0], file[1], file[2])?;
+        let text = answer(rt.alloc(), bytes.as_bytes())?;
+        let wanted = repeated(rt.alloc(), want[0], want[1], want[2])?;
+        assert_eq!(rt; text.as_str(), wanted.as_str());
+    }
+    Ok(())
+}
