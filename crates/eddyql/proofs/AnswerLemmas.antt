@@ -23,22 +23,23 @@ use Rattle.sq_value.proofs.OrderLemmas.{sorted_by_total}
 use Rattle.sq_expr.specs.Fits.{IsFit}
 use Rattle.sq_expr.specs.declared.block.Block.{Block}
 use Rattle.bag_meaning.specs.Bag.{bag}
-use Rattle.bag_meaning.specs.Answer.{answer, answer_order, Rises}
+use Rattle.bag_meaning.specs.Answer.{answer, answer_order, answer_text, heading_fields, Rises}
 use Rattle.bag_meaning.specs.Combination.{padded, stamped}
 use Rattle.bag_meaning.specs.declared.combo.Combo.{Combo}
-use Rattle.bag_meaning.proofs.AnswerLemmas.{IsBefore, AllPairs-bag, IsAnswer-only}
+use Rattle.bag_meaning.proofs.AnswerLemmas.{IsBefore, AllPairs-bag, IsAnswer-answer, IsAnswer-only}
 use Rattle.bag_meaning.proofs.KeyLemmas.{answer_order_total}
 use Rattle.bag_meaning.proofs.ProductRange.{IsCombination, bag-in_range}
 use Rattle.eddy_runs.specs.Complete.{IsBagOf}
 use Rattle.outside.specs.Told.{Adds, AddsFront}
 use Rattle.outside.specs.Faults.{NeverFalls, RoseOrFull}
 use Rattle.outside.proofs.Laws.{RoseOrFull-earlier, RoseOrFull-later, Adds-nothing, Adds-twice, AddsFront-whole, AddsFront-nothing, AddsFront-after, AddsFront-longer}
-use Rattle.result_sink.proofs.TextLemmas.{flat_map-split}
+use Rattle.csv.specs.Writing.{row_text, default_writer}
+use Rattle.result_sink.proofs.TextLemmas.{row_text-some}
 use Rattle.result_sink.specs.Ready.{IsShown, IsOrdered, Differs, rows_of_combo}
 use Rattle.result_sink.specs.declared.fault.WriteFault.{WriteFault}
 use Rattle.result_sink.specs.declared.fault.WriteFault.TheVariants as write
 use Rattle.eddyql.specs.Doing.{Wrote}
-use Rattle.eddyql.specs.Outcome.{block_text, behind_line, text_of}
+use Rattle.eddyql.specs.Outcome.{block_text}
 use Rattle.eddyql.specs.Seen.{Sink}
 use Rattle.eddyql.proofs.ApartLemmas.{AreApart, AreApart-from_pairs, AreApart-permutation}
 
@@ -114,6 +115,13 @@ apart_found gives block tables combos moved = all
         spread i j ne (omega (arith, long, low, within)) (omega (arith, long, within))
         (get_or-map (rows_of_combo block) combos i d [] (omega (arith, low, within)) ∙ same ∙ sym (get_or-map (rows_of_combo block) combos j d [] within))
 
+-- and the answer's
+pub answer_permutes : (gives : ℕ → Value → Value → Truth) (block : Block) (tables : List Relation) (combos : List Combo) → IsBagOf gives block tables combos
+    → IsPermutation (map (rows_of_combo block) combos) (answer gives block tables)
+answer_permutes gives block tables combos found =
+    IsPermutation-trans (map (rows_of_combo block) combos) (bag gives block tables) (answer gives block tables) (rows_found gives block tables combos found)
+    (IsAnswer-answer gives block tables (answer_order_total sorted_by_total block tables)).permutation
+
 -- what was found, put in order, is the answer
 pub answer_found : (gives : ℕ → Value → Value → Truth) (block : Block) (tables : List Relation) (combos sorted : List Combo)
     → IsBagOf gives block tables combos → IsPermutation combos sorted → Rises (answer_order block tables) (map (rows_of_combo block) sorted)
@@ -178,52 +186,15 @@ wrote_front old new first second e w = record {
   front = AddsFront-longer old.written new.written first second w.front;
 }
 
--- the error that a `?` hands on
-pub wrote_through : (old new : Sink) (text : List ℕ) (r : Result (Unit {0}) WriteFault) (y : WriteFault) → IsErrAnd r (λ x. x ≡ y)
-    → Wrote old new text {A = Unit {0}} (Err y) → Wrote old new text r
-wrote_through old new text r y h w =
-    let q = err_from_is_err_and r h in
-    subst (λ (x : Result (Unit {0}) WriteFault). Wrote old new text x) (sym (q.1 ∙ ap Err q.2)) w
-
--- the same of an equal answer, and of an equal text
-pub wrote_is : (old new : Sink) (text : List ℕ) (r q : Result (Unit {0}) WriteFault) → r ≡ q → Wrote old new text r → Wrote old new text q
-wrote_is old new text r q e w = subst (λ (x : Result (Unit {0}) WriteFault). Wrote old new text x) e w
-
+-- the same of an equal text
 pub wrote_text : (old new : Sink) (text other : List ℕ) (r : Result (Unit {0}) WriteFault) → text ≡ other → Wrote old new text r → Wrote old new other r
 wrote_text old new text other r e w = subst (λ (x : List ℕ). Wrote old new x r) e w
 
--- answers, one after another
-flat_map-take : {X : Type 0} (f : X → List ℕ) (xs : List X) (i : ℕ) (d : X) → i < length xs
-    → flat_map f (take (i + 1) xs) ≡ flat_map f (take i xs) ++ f (get_or xs i d)
-flat_map-take {X = X} f xs i d h =
-    let x : X = get_or xs i d in
-    let one : flat_map f (x ∷ []) ≡ f x = flat_map-cons f x [] ∙ append-nil (f x) in
-    ap (flat_map f) (take_more xs i d h) ∙ flat_map-append f (take i xs) (x ∷ [])
-    ∙ ap (λ (z : List ℕ). flat_map f (take i xs) ++ z) one
-
-pub wrote_next : {X : Type 0} (f : X → List ℕ) (xs : List X) (i : ℕ) (x : X) (old mid new : Sink) (r : Result (Unit {0}) WriteFault) → i < length xs
-    → x ≡ get_or xs i x → Wrote old mid (flat_map f (take i xs)) {A = Unit {0}} (Ok tt) → Wrote mid new (f x) r → r ≡ Ok tt
-    → Wrote old new (flat_map f (take (i + 1) xs)) {A = Unit {0}} (Ok tt)
-wrote_next f xs i x old mid new r h is w v e =
-    subst (λ (text : List ℕ). Wrote old new text {A = Unit {0}} (Ok tt))
-    (ap (λ (y : _). flat_map f (take i xs) ++ f y) is ∙ sym (flat_map-take f xs i x h))
-    (wrote_behind old mid new (flat_map f (take i xs)) (f x) (Ok tt) w (subst (λ (q : Result (Unit {0}) WriteFault). Wrote mid new (f x) q) e v))
-
-pub wrote_stopped : {X : Type 0} (f : X → List ℕ) (xs : List X) (i : ℕ) (x : X) (old mid new : Sink) (r : Result (Unit {0}) WriteFault) (y : WriteFault) → i < length xs
-    → x ≡ get_or xs i x → Wrote old mid (flat_map f (take i xs)) {A = Unit {0}} (Ok tt) → Wrote mid new (f x) r → r ≡ Err y
-    → Wrote old new (flat_map f xs) {A = Unit {0}} (Err y)
-wrote_stopped f xs i x old mid new r y h is w v e =
-    subst (λ (text : List ℕ). Wrote old new text {A = Unit {0}} (Err y))
-    (ap (λ (z : _). (flat_map f (take i xs) ++ f z) ++ flat_map f (drop (i + 1) xs)) is ∙ sym (flat_map-split f xs i x h))
-    (wrote_front old new (flat_map f (take i xs) ++ f x) (flat_map f (drop (i + 1) xs)) y
-    (wrote_behind old mid new (flat_map f (take i xs)) (f x) (Err y) w (subst (λ (q : Result (Unit {0}) WriteFault). Wrote mid new (f x) q) e v)))
-
-pub text_of-none : (gives : ℕ → Value → Value → Truth) (tables : List Relation) (blocks : List Block) → length blocks ≡ 0 → text_of gives tables blocks ≡ []
-unfolding text_of
-text_of-none gives tables [] e = refl
-text_of-none gives tables (b ∷ bs) e = absurd (omega (arith, e))
-
-pub text_of-more : (gives : ℕ → Value → Value → Truth) (tables : List Relation) (blocks : List Block) (b : Block) (bs : List Block) → blocks ≡ b ∷ bs
-    → text_of gives tables blocks ≡ block_text gives tables b ++ flat_map (behind_line gives tables) bs
-unfolding text_of
-text_of-more gives tables blocks b bs e = ap (text_of gives tables) e
+-- the text of a block is never empty: its heading ends with a line feed
+pub block_text-some : (gives : ℕ → Value → Value → Truth) (tables : List Relation) (block : Block) → block_text gives tables block ≢ []
+unfolding answer_text
+block_text-some gives tables block e = heading (row_text default_writer (heading_fields block)) _ (row_text-some (heading_fields block)) e
+  where
+    heading : (xs ys : List ℕ) → xs ≢ [] → xs ++ ys ≡ [] → ⊥
+    heading [] ys n f = n refl
+    heading (x ∷ xs) ys n f = cc

@@ -7,6 +7,7 @@ pub mod BindingLemmas
 pub mod ApartLemmas
 pub mod AnswerLemmas
 pub mod TallyLemmas
+pub mod ProgressLemmas
 pub mod CountLemmas
 pub mod OneOutcome
 pub mod PlanLemmas

@@ -4,7 +4,7 @@ use Rattle.std.specs.Prelude.{IsSome, IfOk, OnOk, OnErr}
 use Rattle.outside.specs.Files.{File}
 use Rattle.outside.specs.Faults.{NeverFalls, RoseOrFull}
 use Rattle.outside.specs.Told.{Adds, AddsFront}
-use Rattle.outside.proofs.Laws.{Adds-twice, AddsFront-whole, AddsFront-nothing, AddsFront-after, AddsFront-longer, RoseOrFull-earlier}
+use Rattle.outside.proofs.Laws.{Adds-nothing, Adds-twice, AddsFront-whole, AddsFront-nothing, RoseOrFull-earlier}
 use Rattle.result_sink.specs.declared.fault.WriteFault.{WriteFault}
 use Rattle.result_sink.specs.declared.fault.WriteFault.TheVariants as write
 use Rattle.command_line.specs.declared.command.TableWord.{TableWord}
@@ -13,12 +13,12 @@ use Rattle.sq_value.specs.declared.value.Value.{Value}
 use Rattle.sq_value.specs.declared.value.Truth.{Truth}
 use Rattle.sq_expr.specs.declared.block.Block.{Block}
 use Rattle.eddyql.specs.Asked.{asked, names_of, names_asked, tables_in, is_tallied}
-use Rattle.eddyql.specs.Answering.{Answers, Tallied, of_notes}
+use Rattle.eddyql.specs.Answering.{Answers, Tallied, LinesPut, EndsSo}
 use Rattle.eddyql.specs.Doing.{Went, Stopped, Refuses, Wrote}
-use Rattle.eddyql.specs.Ending.{Answered, AnsweredBy, Ended, EndedBy, NotedLines, Finished, stop_at, stop_of}
-use Rattle.eddyql.specs.Lines.{AllLines, SomeLines, PlanLines, MayFail}
+use Rattle.eddyql.specs.Ending.{Answered, AnsweredBy, Ended, EndedBy, LinedBy, NotedLines, Finished, stop_at, stop_of}
+use Rattle.eddyql.specs.Lines.{SomeLines, RunOf, Progress, MayFail}
 use Rattle.eddyql.specs.Faults.{IsPlaced}
-use Rattle.eddyql.specs.Note.{IsNoted, NotesOf, line_of}
+use Rattle.eddyql.specs.Note.{IsNoted, IsNotedBehind, NotesOf, line_of}
 use Rattle.eddyql.specs.Outcome.{IsOutcome, IsRequested, Predicates, ReachedFor, ReachedBy, task_text}
 use Rattle.eddyql.specs.Refusal.{MayRefuse, IsEarly, IsBetween}
 use Rattle.eddyql.specs.Run.{MayEnd, IsLate, IsBeforeOutput, status_of, text_due}
@@ -36,11 +36,9 @@ use Rattle.eddyql.specs.declared.status.Stage.TheVariants as stage
 use Rattle.eddyql.specs.declared.stopping.Stop.{Stop}
 use Rattle.eddyql.specs.declared.stopping.Stop.TheVariants as stop
 use Rattle.eddyql.specs.Stage.{stage_of}
-use Rattle.eddyql.specs.Tally.{AreLines}
-use Rattle.eddyql.proofs.AnswerLemmas.{wrote_nothing}
 use Rattle.eddyql.proofs.OneOutcome.{same_outcome}
 use Rattle.eddyql.proofs.PlanLemmas.{outcome_unplanned, outcome_planned, outcome_usage}
-use Rattle.eddyql.proofs.TallyLemmas.{lines_none, tallied_output}
+use Rattle.eddyql.proofs.ProgressLemmas.{tallied_output}
 use Rattle.eddyql.proofs.StageLemmas.{MayEnd-early, MayEnd-late, MayEnd-other, ends_by_outcome, holds_anyway, early_not_done, early_not_write, early_not_usage, early_not_found, late_not, late_not_before, MayRefuse-read}
 
 -- ---- the ends
@@ -226,86 +224,85 @@ ended_early p words old before fault = record {
 -- ---- the lines of counts
 
 -- how the answers of a plan ended
-pub plan_done : (tally : Bool) (gives : ℕ → Value → Value → Truth) (tables : List Relation) (blocks : List Block) (text : List ℕ) (old new noted noting : Sink)
-    (r : Result (Unit {0}) Stop) (x : Unit {0}) → r ≡ Ok x → Answers tally gives tables 1 blocks text old new noted noting r
-    → AnsweredBy tally old new noted noting text (end.By status.Done) × Tallied tally gives tables 1 blocks noted noting (stop_of (end.By status.Done))
+pub plan_done : (tally : Bool) (gives : ℕ → Value → Value → Truth) (tables : List Relation) (blocks : List Block) (text : List Block → List ℕ)
+    (old new noted noting : Sink) (r : Result (Unit {0}) Stop) (x : Unit {0}) → r ≡ Ok x → Answers tally gives tables 1 blocks text old new noted noting r
+    → AnsweredBy tally old new noted noting (text blocks) (end.By status.Done)
+    × Tallied tally gives tables 1 blocks text old new noted noting (stop_of (end.By status.Done))
 plan_done tally gives tables blocks text old new noted noting r x e a =
     let b : Answers tally gives tables 1 blocks text old new noted noting (Ok tt) =
     subst (λ (q : Result (Unit {0}) Stop). Answers tally gives tables 1 blocks text old new noted noting q) e a in
-    (answered_done tally old new noted noting text b.out, b.notes)
+    (answered_done tally old new noted noting (text blocks) b.out, b.notes)
 
-pub plan_stopped : (tally : Bool) (gives : ℕ → Value → Value → Truth) (tables : List Relation) (blocks : List Block) (text : List ℕ) (old new noted noting : Sink)
-    (r : Result (Unit {0}) Stop) (y : Stop) → r ≡ Err y → Answers tally gives tables 1 blocks text old new noted noting r
-    → AnsweredBy tally old new noted noting text (end_at y) × Tallied tally gives tables 1 blocks noted noting (stop_of (end_at y))
-plan_stopped tally gives tables blocks text old new noted noting r y e a = by y (subst (λ (q : Result (Unit {0}) Stop). Answers tally gives tables 1 blocks text old new noted noting q) e a)
+pub plan_stopped : (tally : Bool) (gives : ℕ → Value → Value → Truth) (tables : List Relation) (blocks : List Block) (text : List Block → List ℕ)
+    (old new noted noting : Sink) (r : Result (Unit {0}) Stop) (y : Stop) → r ≡ Err y → Answers tally gives tables 1 blocks text old new noted noting r
+    → AnsweredBy tally old new noted noting (text blocks) (end_at y)
+    × Tallied tally gives tables 1 blocks text old new noted noting (stop_of (end_at y))
+plan_stopped tally gives tables blocks text old new noted noting r y e a =
+    by y (subst (λ (q : Result (Unit {0}) Stop). Answers tally gives tables 1 blocks text old new noted noting q) e a)
   where
     by : (y : Stop) → Answers tally gives tables 1 blocks text old new noted noting (Err y)
-        → AnsweredBy tally old new noted noting text (end_at y) × Tallied tally gives tables 1 blocks noted noting (stop_of (end_at y))
-    by stop.Output b = (answered_write tally old new noted noting text b.out, tallied_output tally gives tables 1 blocks noted noting b.notes)
-    by stop.Notes b = (answered_notes tally old new noted noting text b.out (b.notes.wanted refl) (b.notes.put.failed refl), b.notes)
-    by stop.Memory b = (answered_memory tally old new noted noting text b.out, b.notes)
-
-ok_weaker : {P Q : Type 0} (r : Result (Unit {0}) Stop) → (P → Q) → OnOk r P → OnOk r Q
-ok_weaker (Ok x) f h = f h
-ok_weaker (Err e) f h = tt
+        → AnsweredBy tally old new noted noting (text blocks) (end_at y)
+        × Tallied tally gives tables 1 blocks text old new noted noting (stop_of (end_at y))
+    by stop.Output b = (
+      answered_write tally old new noted noting (text blocks) b.out,
+      tallied_output tally gives tables 1 blocks text old new noted noting b.notes,
+    )
+    by stop.Notes b = (answered_notes tally old new noted noting (text blocks) b.out b.notes.end'.1 b.notes.end'.0.rose, b.notes)
+    by stop.Memory b = (answered_memory tally old new noted noting (text blocks) b.out, b.notes)
 
 -- the lines of a plan that was run
-pub lines_answered : (p : Predicates) (words : List (List ℕ)) (a : Request) (plan : Plan) (old new : Folder) (noted noting : Sink) (e : End)
+pub lines_answered : (p : Predicates) (words : List (List ℕ)) (a : Request) (plan : Plan) (old new : Folder) (before now noted noting : Sink) (e : End)
     → asked words ≡ Some a → Went old new (λ files. IsRequested p a files (Ok plan))
-    → Tallied a.settings.tally p.gives plan.catalogue.tables 1 plan.blocks noted noting (stop_of e) → NotedLines p words old.holds noted noting e
-lines_answered p words a plan old new noted noting e is w h = record {
-  lines = h.lines;
-  some = which (is_tallied words) refl;
-  all = ok_weaker (stop_of e) (λ left. (lines, left)) h.all;
-  put = h.put;
-  kept = h.kept;
-  quiet = λ q. h.quiet (sym tally ∙ q);
-}
+    → Tallied a.settings.tally p.gives plan.catalogue.tables 1 plan.blocks (task_text a.task p.gives plan.catalogue.tables) before now noted noting (stop_of e)
+    → NotedLines p words old.holds before now noted noting e
+lines_answered p words a plan old new before now noted noting e is w h =
+    record { end' = by (stop_of e) h.end'; quiet = λ q. h.quiet (sym tally ∙ q) }
   where
     tally : is_tallied words ≡ a.settings.tally
     tally = rw is refl
 
-    are : AreLines (is_tallied words) p.gives plan.catalogue.tables 1 h.finished h.lines
-    are = subst (λ (b : Bool). AreLines b p.gives plan.catalogue.tables 1 h.finished h.lines) (sym tally) h.are
+    of : RunOf p words old.holds
+    of = record { request = a; in_form = is; plan = plan; planned = λ files told. w.tells files told }
 
-    lines : PlanLines p words old.holds h.lines
-    lines = record {
-      plan = plan;
-      planned = λ files told. record { request = a; in_form = is; plan_is = w.tells files told };
+    text : List Block → List ℕ
+    text = task_text a.task p.gives plan.catalogue.tables
+
+    progress : LinesPut text h.finished h.left h.lines before now noted noting → Progress p words old.holds before now h.lines
+    progress k = record { of = of; finished = h.finished; left = h.left; split = h.split; are = h.are; took = k.took }
+
+    by : (r : Result (Unit {0}) Stop)
+        → EndsSo a.settings.tally p.gives plan.catalogue.tables 1 text h.finished h.left h.lines before now noted noting r
+        → LinedBy p words old.holds before now noted noting r
+    by (Ok x) k = (h.lines, (progress k.0, k.1), k.0.put, k.2)
+    by (Err stop.Notes) k = record {
+      of = of;
       finished = h.finished;
-      left = h.left;
-      split = h.split;
-      are = are;
+      next = k.0.next;
+      left = k.0.rest;
+      split = h.split ∙ ap (λ (l : List Block). h.finished ++ l) k.0.is;
+      text = k.0.whole;
+      lines = h.lines;
+      are = h.are;
+      line = k.0.line;
+      right = k.0.right;
+      wanted = k.1;
+      front = k.0.front;
+      rose = k.0.rose;
     }
-
-    which : (b : Bool) → is_tallied words ≡ b → SomeLines p words old.holds h.lines
-    which true e = inr (e, lines)
-    which false e = inl (lines_none p.gives plan.catalogue.tables 1 h.finished h.lines
-        (subst (λ (b : Bool). AreLines b p.gives plan.catalogue.tables 1 h.finished h.lines) e are))
+    by (Err stop.Output) k = (h.lines, inr (progress k), k.put, k.counts)
+    by (Err stop.Memory) k = (h.lines, inr (progress k), k.put, k.counts)
 
 -- no line was put, and the run isn't done
-pub lines_unput : (p : Predicates) (words : List (List ℕ)) (holds : Option (List File)) (told : Type 0) (noted : Sink) (s : Status) → IsEarly told s
-    → NotedLines p words holds noted noted (end.By s)
-lines_unput p words holds told noted s early = record {
-  lines = [];
-  some = inl refl;
-  all = no_ok (stage_of s) early.between;
-  put = no_stop (stage_of s);
-  kept = every_ok (stage_of s);
-  quiet = λ q. refl;
-}
+pub lines_unput : (p : Predicates) (words : List (List ℕ)) (holds : Option (List File)) (told : Type 0) (before noted : Sink) (s : Status) → IsEarly told s
+    → NotedLines p words holds before before noted noted (end.By s)
+lines_unput p words holds told before noted s early = record { end' = by (stage_of s) early.between; quiet = λ q. refl }
   where
-    no_ok : (st : Stage) → IsBetween st → OnOk (stop_at st) (AllLines p words holds [])
-    no_ok stage.Run h = absurd h
-    no_ok _ h = tt
+    none : (lines : List ℕ) × SomeLines p words holds before before lines × Adds noted.written noted.written lines × NeverFalls noted.faults noted.faults
+    none = ([], inl (refl, refl), Adds-nothing noted.written, omega arith)
 
-    no_stop : (st : Stage) → Wrote noted noted [] (of_notes (stop_at st))
-    no_stop stage.Run = wrote_nothing noted
-    no_stop _ = wrote_nothing noted
-
-    every_ok : (st : Stage) → OnOk (stop_at st) (noted.faults ≡ noted.faults)
-    every_ok stage.Run = refl
-    every_ok _ = tt
+    by : (st : Stage) → IsBetween st → LinedBy p words holds before before noted noted (stop_at st)
+    by stage.Run h = absurd h
+    by _ h = none
 
 -- how a run ended whose plan was run
 pub ended_by_answers : (p : Predicates) (words : List (List ℕ)) (a : Request) (plan : Plan) (old new : Folder) (before now noted noting : Sink) (e : End)
@@ -326,34 +323,40 @@ by_either : (P : Status → Type 0) (s ended : Status) → (ended ≡ s) ⊎ (en
 by_either P s ended (inl e) h k = subst P (sym e) h
 by_either P s ended (inr e) h k = subst P (sym e) k
 
--- lines that were put whole
-lines_whole : (old new : Sink) (lines : List ℕ) (st : Stage) → Wrote old new lines (of_notes (stop_at st)) → Adds old.written new.written lines × NeverFalls old.faults new.faults
-lines_whole old new lines stage.Run w = (w.ok, w.counts)
-lines_whole old new lines _ w = (w.ok, w.counts)
+-- lines that were put, whether or not the run was done
+lines_any : (p : Predicates) (words : List (List ℕ)) (holds : Option (List File)) (before now noted noting : Sink) (st : Stage)
+    → LinedBy p words holds before now noted noting (stop_at st)
+    → (lines : List ℕ) × SomeLines p words holds before now lines × Adds noted.written noting.written lines × NeverFalls noted.faults noting.faults
+lines_any p words holds before now noted noting stage.Run k = (k.0, inr k.1.0, k.2, omega (arith, k.3))
+lines_any p words holds before now noted noting _ k = k
 
 -- a note behind lines
 noted_behind : (old mid new : Sink) (lines line : List ℕ) → Adds old.written mid.written lines → NeverFalls old.faults mid.faults → IsNoted mid new line
-    → IsNoted old new (lines ++ line)
+    → IsNotedBehind old new lines line
 noted_behind old mid new lines line put counts (inl h) = inl (Adds-twice old.written mid.written new.written lines line put h)
-noted_behind old mid new lines line put counts (inr h) =
-    inr (RoseOrFull-earlier old.faults mid.faults new.faults counts h.0, AddsFront-after old.written mid.written new.written lines line put h.1)
+noted_behind old mid new lines line put counts (inr h) = inr (
+  RoseOrFull-earlier old.faults mid.faults new.faults counts h.0,
+  (h.1.0, h.1.1, h.1.2, Adds-twice old.written mid.written new.written lines h.1.0 put h.1.3),
+)
 
 -- a run of what the words ask for, and its line
 pub finished_noted : (p : Predicates) (words : List (List ℕ)) (a : Request) (old new : Folder) (before now noted noting said : Sink) (s ended : Status)
-    → asked words ≡ Some a → EndedBy p words old new before now noted noting (end.By s) → NotedLines p words old.holds noted noting (end.By s)
+    → asked words ≡ Some a → EndedBy p words old new before now noted noting (end.By s) → NotedLines p words old.holds before now noted noting (end.By s)
     → NotesOf (names_of (tables_in a.task)) noting said s ended → Finished p words old new before now noted said ended
 finished_noted p words a old new before now noted noting said s ended is h l n = record {
   ended = ended_by_other p words old new before now rose (MayFail words rose (RoseOrFull noted.faults said.faults)) ended (λ r. inl r)
       (by_either (λ (t : Status). Ended p words old new before now rose t) s ended n.either h (ended_memory p words old new before now rose s h));
   usage = λ none. absurd (never (sym none ∙ is));
-  tallied = λ e. (l.lines, on_done e l.all, subst (λ (x : Sink). Adds noted.written x.written l.lines) (sym (n.silent e)) whole.0);
-  kept = λ e. ap (λ (x : Sink). x.faults) (n.silent e) ∙ on_done e l.kept;
+  tallied = λ e.
+      let k = on_done e l.end' in
+      (k.0, k.1, subst (λ (x : Sink). Adds noted.written x.written k.0) (sym (n.silent e)) k.2);
+  kept = λ e. ap (λ (x : Sink). x.faults) (n.silent e) ∙ (on_done e l.end').3;
   silent = λ e q. n.silent e ∙ l.quiet q;
-  noted_lines = λ other. (
-    l.lines,
-    l.some,
-    subst (λ (names : List (List ℕ)). IsNoted noted said (l.lines ++ line_of names ended)) (sym names)
-        (noted_behind noted noting said l.lines (line_of (names_of (tables_in a.task)) ended) whole.0 whole.1 (n.noted other)),
+  noted_lines = λ other. inl (
+    put.0,
+    put.1,
+    subst (λ (names : List (List ℕ)). IsNotedBehind noted said put.0 (line_of names ended)) (sym names)
+        (noted_behind noted noting said put.0 (line_of (names_of (tables_in a.task)) ended) put.2 put.3 (n.noted other)),
   );
   cut = λ e calm. absurd (calm (h.write (written e n.either)));
 }
@@ -361,8 +364,9 @@ finished_noted p words a old new before now noted noting said s ended is h l n =
     rose : Type 0
     rose = RoseOrFull before.faults now.faults
 
-    whole : Adds noted.written noting.written l.lines × NeverFalls noted.faults noting.faults
-    whole = lines_whole noted noting l.lines (stage_of s) l.put
+    put : (lines : List ℕ) × SomeLines p words old.holds before now lines × Adds noted.written noting.written lines
+        × NeverFalls noted.faults noting.faults
+    put = lines_any p words old.holds before now noted noting (stage_of s) l.end'
 
     never : ◌≡◌ {A = Option Request} None (Some a) → ⊥
     never f = cc
@@ -378,12 +382,13 @@ finished_noted p words a old new before now noted noting said s ended is h l n =
     written e (inl f) = sym f ∙ e
     written e (inr f) = let wrong : status.Memory ≡ status.Write = sym f ∙ e in absurd cc
 
-    on_done : {P : Type 0} → ended ≡ status.Done → OnOk (stop_at (stage_of s)) P → P
-    on_done {P = P} e k = subst (λ (t : Status). OnOk (stop_at (stage_of t)) P) (done ended e n.either) k
+    on_done : ended ≡ status.Done → LinedBy p words old.holds before now noted noting (stop_at (stage_of s))
+        → LinedBy p words old.holds before now noted noting (Ok tt)
+    on_done e k = subst (λ (t : Status). LinedBy p words old.holds before now noted noting (stop_at (stage_of t))) (done ended e n.either) k
 
 -- a run that the notes stopped at a line of counts: nothing more is put to them
 pub finished_cut : (p : Predicates) (words : List (List ℕ)) (a : Request) (old new : Folder) (before now noted noting : Sink) → asked words ≡ Some a
-    → EndedBy p words old new before now noted noting end.ByNotes → NotedLines p words old.holds noted noting end.ByNotes
+    → EndedBy p words old new before now noted noting end.ByNotes → NotedLines p words old.holds before now noted noting end.ByNotes
     → Finished p words old new before now noted noting status.Write
 finished_cut p words a old new before now noted noting is h l = record {
   ended = ended_by_other p words old new before now ((is_tallied words ≡ true) × RoseOrFull noted.faults noting.faults)
@@ -392,15 +397,8 @@ finished_cut p words a old new before now noted noting is h l = record {
   tallied = λ e. absurd cc;
   kept = λ e. absurd cc;
   silent = λ e. absurd cc;
-  noted_lines = λ other. (
-    l.lines,
-    l.some,
-    inr (
-      l.put.failed refl,
-      AddsFront-longer noted.written noting.written l.lines (line_of (names_asked words) status.Write) l.put.front,
-    ),
-  );
-  cut = λ e calm. (l.lines, l.some, l.put.front);
+  noted_lines = λ other. inr (refl, l.end');
+  cut = λ e calm. l.end';
 }
   where
     never : ◌≡◌ {A = Option Request} None (Some a) → ⊥
@@ -409,19 +407,19 @@ finished_cut p words a old new before now noted noting is h l = record {
 -- the same by an equal end
 pub finished_by : (p : Predicates) (words : List (List ℕ)) (a : Request) (old new : Folder) (before now noted noting said : Sink) (e : End) (s ended : Status)
     (tables : List TableWord) → e ≡ end.By s → asked words ≡ Some a → EndedBy p words old new before now noted noting e
-    → NotedLines p words old.holds noted noting e → tables ≡ tables_in a.task → NotesOf (names_of tables) noting said s ended
+    → NotedLines p words old.holds before now noted noting e → tables ≡ tables_in a.task → NotesOf (names_of tables) noting said s ended
     → Finished p words old new before now noted said ended
 finished_by p words a old new before now noted noting said e s ended tables f is h l same n =
     finished_noted p words a old new before now noted noting said s ended is (subst (λ (x : End). EndedBy p words old new before now noted noting x) f h)
-    (subst (λ (x : End). NotedLines p words old.holds noted noting x) f l)
+    (subst (λ (x : End). NotedLines p words old.holds before now noted noting x) f l)
     (subst (λ (ts : List TableWord). NotesOf (names_of ts) noting said s ended) same n)
 
 pub finished_by_notes : (p : Predicates) (words : List (List ℕ)) (a : Request) (old new : Folder) (before now noted noting : Sink) (e : End)
-    → e ≡ end.ByNotes → asked words ≡ Some a → EndedBy p words old new before now noted noting e → NotedLines p words old.holds noted noting e
+    → e ≡ end.ByNotes → asked words ≡ Some a → EndedBy p words old new before now noted noting e → NotedLines p words old.holds before now noted noting e
     → Finished p words old new before now noted noting status.Write
 finished_by_notes p words a old new before now noted noting e f is h l =
     finished_cut p words a old new before now noted noting is (subst (λ (x : End). EndedBy p words old new before now noted noting x) f h)
-    (subst (λ (x : End). NotedLines p words old.holds noted noting x) f l)
+    (subst (λ (x : End). NotedLines p words old.holds before now noted noting x) f l)
 
 -- words out of form, or want of memory for them, and its line
 same_line : (names : List (List ℕ)) (s : Status) → (s ≡ status.Usage) ⊎ (s ≡ status.Memory) → line_of [] s ≡ line_of names s
@@ -438,9 +436,9 @@ finished_usage p words old before noted noting s ended why n = record {
   tallied = λ e. absurd (not_done e (which why));
   kept = λ e. absurd (not_done e (which why));
   silent = λ e. absurd (not_done e (which why));
-  noted_lines = λ other. (
+  noted_lines = λ other. inl (
     [],
-    inl refl,
+    inl (refl, refl),
     subst (λ (line : List ℕ). IsNoted noted noting line) (same_line (names_asked words) ended (which why)) (n.noted other),
   );
   cut = λ e calm. absurd (not_write e (which why));

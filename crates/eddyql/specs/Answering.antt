@@ -1,5 +1,5 @@
 -- Serves proofs: what steps have done that put answers to the output and lines of counts to the notes.
-use Rattle.std.specs.Prelude.{◌≡◌, ◌≢◌, ℕ, Bool, true, false, List, [], ◌++◌, Option, None, option_map, unwrap_or, Result, Ok, Err, OnOk}
+use Rattle.std.specs.Prelude.{◌≡◌, ◌≢◌, ℕ, ◌+◌, Bool, true, false, List, [], ◌∷◌, ◌++◌, length, Option, None, option_map, unwrap_or, Result, Ok, Err, ⊤}
 use Rattle.std.specs.String.{string_bytes}
 use Rattle.sq_value.specs.Relation.{Relation}
 use Rattle.sq_value.specs.declared.value.Value.{Value}
@@ -7,11 +7,15 @@ use Rattle.sq_value.specs.declared.value.Truth.{Truth}
 use Rattle.sq_expr.specs.declared.block.Block.{Block}
 use Rattle.bag_meaning.specs.declared.combo.Combo.{Combo}
 use Rattle.eddy_runs.specs.Complete.{IsBagOf}
+use Rattle.outside.specs.Faults.{NeverFalls, RoseOrFull}
+use Rattle.outside.specs.Told.{Adds}
+use Rattle.result_sink.specs.Ready.{AddsPart}
 use Rattle.result_sink.specs.declared.fault.WriteFault.{WriteFault}
 use Rattle.result_sink.specs.declared.fault.WriteFault.TheVariants as write
 use Rattle.eddyql.specs.Doing.{Wrote}
+use Rattle.eddyql.specs.Lines.{TookSoFar, AddsFrontBehind}
 use Rattle.eddyql.specs.Seen.{Sink}
-use Rattle.eddyql.specs.Tally.{IsLine, AreLines}
+use Rattle.eddyql.specs.Tally.{IsLine, IsTally, AreLines}
 use Rattle.eddyql.specs.declared.answering.Found.{Found}
 use Rattle.eddyql.specs.declared.stopping.Stop.{Stop}
 use Rattle.eddyql.specs.declared.stopping.Stop.TheVariants as stop
@@ -23,32 +27,56 @@ of_output (Err stop.Output) = Err write.Failed
 of_output (Err stop.Notes) = Err write.Memory
 of_output (Err stop.Memory) = Err write.Memory
 
--- what it has done to the notes: lines are whole but for a fault of the notes
-abbrev pub of_notes : Result (Unit {0}) Stop → Result (Unit {0}) WriteFault
-of_notes (Ok x) = Ok x
-of_notes (Err stop.Output) = Ok tt
-of_notes (Err stop.Notes) = Err write.Failed
-of_notes (Err stop.Memory) = Ok tt
+-- a fault of the notes came at the line of the next statement, whose text was put, behind the lines of those before
+pub record BrokeOff (gives : ℕ → Value → Value → Truth) (tables : List Relation) (number : ℕ)
+    (text : List Block → List ℕ) (finished left : List Block) (lines : List ℕ) (old new noted noting : Sink)
+    : Type 0 where
+  pub next : Block
+  pub rest : List Block
+  pub is : left ≡ next ∷ rest
+  pub whole : Adds old.written new.written (text (finished ++ next ∷ []))
+  pub line : List ℕ
+  pub right : IsTally gives tables (number + length finished) next line
+  pub front : AddsFrontBehind noted.written noting.written lines line
+  pub rose : RoseOrFull noted.faults noting.faults
 
--- lines of counts were put for the first of these blocks, and for all of them where the step went well
+-- the lines of finished statements were put, and so much of all texts
+pub record LinesPut (text : List Block → List ℕ) (finished left : List Block) (lines : List ℕ)
+    (old new noted noting : Sink) : Type 0 where
+  pub put : Adds noted.written noting.written lines
+  pub counts : NeverFalls noted.faults noting.faults
+  pub took : TookSoFar text finished left old new
+
+-- how the statements of a step ended, the first of them finished
+abbrev pub EndsSo : Bool → (ℕ → Value → Value → Truth) → List Relation → ℕ → (List Block → List ℕ) → List Block
+    → List Block → List ℕ → Sink → Sink → Sink → Sink → Result (Unit {0}) Stop → Type 0
+EndsSo tally gives tables number text finished left lines old new noted noting (Ok x) =
+    LinesPut text finished left lines old new noted noting × (left ≡ []) × (noting.faults ≡ noted.faults)
+EndsSo tally gives tables number text finished left lines old new noted noting (Err stop.Notes) =
+    BrokeOff gives tables number text finished left lines old new noted noting × (tally ≡ true)
+EndsSo tally gives tables number text finished left lines old new noted noting (Err stop.Output) =
+    LinesPut text finished left lines old new noted noting
+EndsSo tally gives tables number text finished left lines old new noted noting (Err stop.Memory) =
+    LinesPut text finished left lines old new noted noting
+
+-- the first of these statements are finished, the first of all with this number, and their lines were put
 pub record Tallied (tally : Bool) (gives : ℕ → Value → Value → Truth) (tables : List Relation) (number : ℕ)
-    (blocks : List Block) (old new : Sink) (r : Result (Unit {0}) Stop) : Type 0 where
+    (blocks : List Block) (text : List Block → List ℕ) (old new noted noting : Sink) (r : Result (Unit {0}) Stop)
+    : Type 0 where
   pub finished : List Block
   pub left : List Block
   pub split : blocks ≡ finished ++ left
-  pub all : OnOk r (left ≡ [])
   pub lines : List ℕ
   pub are : AreLines tally gives tables number finished lines
-  pub put : Wrote old new lines (of_notes r)
-  pub kept : OnOk r (new.faults ≡ old.faults)
-  pub quiet : tally ≡ false → new ≡ old
-  pub wanted : r ≡ Err stop.Notes → tally ≡ true
+  pub end' : EndsSo tally gives tables number text finished left lines old new noted noting r
+  pub quiet : tally ≡ false → noting ≡ noted
 
--- the text of these blocks was put, and their lines
+-- the text of these blocks was put, or a front of it, and the lines of those that are finished
 pub record Answers (tally : Bool) (gives : ℕ → Value → Value → Truth) (tables : List Relation) (number : ℕ)
-    (blocks : List Block) (text : List ℕ) (old new noted noting : Sink) (r : Result (Unit {0}) Stop) : Type 0 where
-  pub out : Wrote old new text (of_output r)
-  pub notes : Tallied tally gives tables number blocks noted noting r
+    (blocks : List Block) (text : List Block → List ℕ) (old new noted noting : Sink) (r : Result (Unit {0}) Stop)
+    : Type 0 where
+  pub out : Wrote old new (text blocks) (of_output r)
+  pub notes : Tallied tally gives tables number blocks text old new noted noting r
 
 -- the bytes of a line that may be there
 abbrev pub line_bytes : Option (List ℕ) → List ℕ
@@ -74,3 +102,24 @@ Lined line old new (Err stop.Notes) =
     Wrote old new (line_bytes line) {A = Unit {0}} (Err write.Failed) × (line ≢ None)
 Lined line old new (Err stop.Output) = new ≡ old
 Lined line old new (Err stop.Memory) = new ≡ old
+
+-- a text was put, and then a line: the text is whole where the line failed, and isn't where memory was wanting
+pub record PutBoth (text : List ℕ) (line : Option (List ℕ)) (old new noted noting : Sink)
+    (r : Result (Unit {0}) Stop) : Type 0 where
+  pub out : Wrote old new text (of_output r)
+  pub whole : r ≡ Err stop.Notes → Adds old.written new.written text
+  pub short : r ≡ Err stop.Memory → AddsPart old.written new.written text
+  pub notes : Lined line noted noting r
+
+-- what holds where a line was put, or failed
+abbrev pub OnTold : Result (Unit {0}) Stop → Type 0 → Type 0
+OnTold (Ok x) P = P
+OnTold (Err stop.Notes) P = P
+OnTold (Err _) P = ⊤
+
+-- the text of one statement was put, and then its line
+pub record AnswersOne (tally : Bool) (gives : ℕ → Value → Value → Truth) (tables : List Relation) (number : ℕ)
+    (block : Block) (text : List ℕ) (old new noted noting : Sink) (r : Result (Unit {0}) Stop) : Type 0 where
+  pub line : Option (List ℕ)
+  pub right : OnTold r (IsLineFor tally gives tables number block line)
+  pub put : PutBoth text line old new noted noting r

@@ -11,9 +11,9 @@ use Rattle.eddyql.specs.Outcome.{IsOutcome, Predicates, ReachedBy}
 use Rattle.eddyql.specs.Refusal.{MayRefuse, IsEarly, UnlessReadOrMemory}
 use Rattle.eddyql.specs.Run.{MayEnd, IsBeforeOutput, IsLate}
 use Rattle.eddyql.specs.Asked.{asked, names_asked, is_tallied}
-use Rattle.eddyql.specs.Lines.{AllLines, SomeLines, MayFail}
+use Rattle.eddyql.specs.Lines.{AllLines, SomeLines, IsCutOff, MayFail}
 use Rattle.eddyql.specs.Stage.{stage_of}
-use Rattle.eddyql.specs.Note.{IsNoted, line_of}
+use Rattle.eddyql.specs.Note.{IsNotedBehind, line_of}
 use Rattle.eddyql.specs.Faults.{IsPlaced}
 use Rattle.eddyql.specs.Seen.{Folder, Sink}
 use Rattle.eddyql.specs.declared.run.End.{End}
@@ -25,8 +25,6 @@ use Rattle.eddyql.specs.declared.stopping.Stop.{Stop}
 use Rattle.eddyql.specs.declared.stopping.Stop.TheVariants as stop
 use Rattle.eddyql.specs.declared.status.Status.{Status}
 use Rattle.eddyql.specs.declared.status.Status.TheVariants as status
-use Rattle.eddyql.specs.Answering.{of_notes}
-use Rattle.eddyql.specs.Doing.{Wrote}
 
 -- a run ended with this status; a fault of the output or the notes has its reason
 pub record Ended (p : Predicates) (words : List (List ℕ)) (old new : Folder) (before now : Sink) (fault : Type 0)
@@ -79,14 +77,20 @@ stop_of (end.By s) = stop_at (stage_of s)
 stop_of end.ByNotes = Err stop.Notes
 
 -- lines of counts were put, and no note yet
-pub record NotedLines (p : Predicates) (words : List (List ℕ)) (holds : Option (List File)) (old new : Sink) (e : End)
-    : Type 0 where
-  pub lines : List ℕ
-  pub some : SomeLines p words holds lines
-  pub all : OnOk (stop_of e) (AllLines p words holds lines)
-  pub put : Wrote old new lines (of_notes (stop_of e))
-  pub kept : OnOk (stop_of e) (new.faults ≡ old.faults)
-  pub quiet : is_tallied words ≡ false → new ≡ old
+abbrev pub LinedBy : Predicates → List (List ℕ) → Option (List File) → Sink → Sink → Sink → Sink
+    → Result (Unit {0}) Stop → Type 0
+LinedBy p words holds before now noted noting (Ok x) =
+    (lines : List ℕ) × AllLines p words holds before now lines × Adds noted.written noting.written lines
+    × (noting.faults ≡ noted.faults)
+LinedBy p words holds before now noted noting (Err stop.Notes) = IsCutOff p words holds before now noted noting
+LinedBy p words holds before now noted noting (Err _) =
+    (lines : List ℕ) × SomeLines p words holds before now lines × Adds noted.written noting.written lines
+    × NeverFalls noted.faults noting.faults
+
+pub record NotedLines (p : Predicates) (words : List (List ℕ)) (holds : Option (List File))
+    (before now noted noting : Sink) (e : End) : Type 0 where
+  pub end' : LinedBy p words holds before now noted noting (stop_of e)
+  pub quiet : is_tallied words ≡ false → noting ≡ noted
 
 -- a run ended with this status, and said so on the notes
 pub record Finished (p : Predicates) (words : List (List ℕ)) (old new : Folder)
@@ -94,12 +98,13 @@ pub record Finished (p : Predicates) (words : List (List ℕ)) (old new : Folder
   pub ended : Ended p words old new before now
       (MayFail words (RoseOrFull before.faults now.faults) (RoseOrFull noted.faults noting.faults)) s
   pub usage : asked words ≡ None → (s ≡ status.Usage) ⊎ (s ≡ status.Memory)
-  pub tallied : s ≡ status.Done
-      → (lines : List ℕ) × AllLines p words old.holds lines × Adds noted.written noting.written lines
+  pub tallied : s ≡ status.Done → (lines : List ℕ) × AllLines p words old.holds before now lines
+      × Adds noted.written noting.written lines
   pub kept : s ≡ status.Done → noting.faults ≡ noted.faults
   pub silent : s ≡ status.Done → is_tallied words ≡ false → noting ≡ noted
   pub noted_lines : s ≢ status.Done
-      → (lines : List ℕ) × SomeLines p words old.holds lines
-      × IsNoted noted noting (lines ++ line_of (names_asked words) s)
+      → ((lines : List ℕ) × SomeLines p words old.holds before now lines
+      × IsNotedBehind noted noting lines (line_of (names_asked words) s))
+      ⊎ ((s ≡ status.Write) × IsCutOff p words old.holds before now noted noting)
   pub cut : s ≡ status.Write → ¬ (RoseOrFull before.faults now.faults)
-      → (lines : List ℕ) × SomeLines p words old.holds lines × AddsFront noted.written noting.written lines
+      → IsCutOff p words old.holds before now noted noting

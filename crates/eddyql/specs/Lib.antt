@@ -8,11 +8,11 @@ pub mod Accesses
 pub mod Demo
 pub mod Outcome
 pub mod Tally
-pub mod Lines
 pub mod Run
+pub mod Seen
+pub mod Lines
 pub mod Note
 pub mod Refusal
-pub mod Seen
 pub mod Doing
 pub mod Loaded
 pub mod Shipped

@@ -1,37 +1,88 @@
--- The lines of counts of a run: those of all its statements, or of the first of them.
-use Rattle.std.specs.Prelude.{◌≡◌, ◌⊎◌, ℕ, true, List, [], ◌++◌, Option, Some, Result, Ok}
+-- The lines of counts of a run, and how far it came: which statements are finished, by what was written of their text.
+use Rattle.std.specs.Prelude.{◌≡◌, ◌≢◌, ◌⊎◌, ℕ, ◌+◌, true, List, [], ◌∷◌, ◌++◌, length, take, Option, Some, Result, Ok}
+use Rattle.outside.specs.Faults.{RoseOrFull}
 use Rattle.outside.specs.Files.{File}
+use Rattle.outside.specs.Told.{Adds}
 use Rattle.sq_expr.specs.declared.block.Block.{Block}
 use Rattle.eddyql.specs.Asked.{asked, is_tallied}
-use Rattle.eddyql.specs.Outcome.{IsRequested, Predicates}
-use Rattle.eddyql.specs.Tally.{AreLines}
+use Rattle.eddyql.specs.Outcome.{IsRequested, Predicates, task_text}
+use Rattle.eddyql.specs.Seen.{Sink}
+use Rattle.eddyql.specs.Tally.{IsTally, AreLines}
 use Rattle.eddyql.specs.declared.asking.Request.{Request}
 use Rattle.eddyql.specs.declared.plan.Plan.{Plan}
 
--- what words over files run
-pub record IsPlanOf (p : Predicates) (words : List (List ℕ)) (files : List File) (plan : Plan) : Type 0 where
+-- a text begins with another
+abbrev pub IsFront : List ℕ → List ℕ → Type 0
+IsFront front text = (rest : List ℕ) × (text ≡ front ++ rest)
+
+-- a sink took the whole text of finished statements, and of those that are left a front of the next one's; where its
+-- count of faults didn't rise, that one's text isn't whole
+pub record TookSoFar (text : List Block → List ℕ) (finished left : List Block) (before now : Sink) : Type 0 where
+  pub added : List ℕ
+  pub adds : Adds before.written now.written added
+  pub whole : finished ≢ [] → IsFront (text finished) added
+  pub front : IsFront added (text (finished ++ take 1 left))
+  pub short : ¬ (RoseOrFull before.faults now.faults) → left ≢ [] → added ≢ text (finished ++ take 1 left)
+
+-- a sink took a text, and a front of a second one
+abbrev pub AddsFrontBehind : Option (List ℕ) → Option (List ℕ) → List ℕ → List ℕ → Type 0
+AddsFrontBehind before now first second =
+    (front : List ℕ) × (rest : List ℕ) × (second ≡ front ++ rest) × Adds before now (first ++ front)
+
+-- what is run: what the words ask for, and its plan over the folder's files, where it tells them
+pub record RunOf (p : Predicates) (words : List (List ℕ)) (holds : Option (List File)) : Type 0 where
   pub request : Request
   pub in_form : asked words ≡ Some request
-  pub plan_is : IsRequested p request files (Ok plan)
-
--- the lines of the first statements of a plan, which is the run's where the folder tells its files
-pub record PlanLines (p : Predicates) (words : List (List ℕ)) (holds : Option (List File)) (lines : List ℕ)
-    : Type 0 where
   pub plan : Plan
-  pub planned : (files : List File) → holds ≡ Some files → IsPlanOf p words files plan
+  pub planned : (files : List File) → holds ≡ Some files → IsRequested p request files (Ok plan)
+
+-- the text of its first statements
+abbrev pub text_in : {p : Predicates} {words : List (List ℕ)} {holds : Option (List File)} → RunOf p words holds
+    → List Block → List ℕ
+text_in {p = p} r = λ (blocks : List Block). task_text r.request.task p.gives r.plan.catalogue.tables blocks
+
+-- the lines of its first statements, which are none where none are asked for
+abbrev pub AreLinesIn : {p : Predicates} {words : List (List ℕ)} {holds : Option (List File)} → RunOf p words holds
+    → List Block → List ℕ → Type 0
+AreLinesIn {p = p} r blocks lines =
+    AreLines r.request.settings.tally p.gives r.plan.catalogue.tables 1 blocks lines
+
+-- a run came so far: the first of its statements are finished, by what the output took, and these are their lines
+pub record Progress (p : Predicates) (words : List (List ℕ)) (holds : Option (List File)) (before now : Sink)
+    (lines : List ℕ) : Type 0 where
+  pub of : RunOf p words holds
   pub finished : List Block
   pub left : List Block
-  pub split : plan.blocks ≡ finished ++ left
-  pub are : AreLines (is_tallied words) p.gives plan.catalogue.tables 1 finished lines
+  pub split : of.plan.blocks ≡ finished ++ left
+  pub are : AreLinesIn of finished lines
+  pub took : TookSoFar (text_in of) finished left before now
 
--- the lines of all statements of a run, where the words ask for lines
-abbrev pub AllLines : Predicates → List (List ℕ) → Option (List File) → List ℕ → Type 0
-AllLines p words holds lines =
-    (l : PlanLines p words holds lines) × (l.left ≡ [])
+-- the lines of all statements of a run
+abbrev pub AllLines : Predicates → List (List ℕ) → Option (List File) → Sink → Sink → List ℕ → Type 0
+AllLines p words holds before now lines = (g : Progress p words holds before now lines) × (g.left ≡ [])
 
--- no line, or the lines of the first statements, where the words ask for lines
-abbrev pub SomeLines : Predicates → List (List ℕ) → Option (List File) → List ℕ → Type 0
-SomeLines p words holds lines = (lines ≡ []) ⊎ ((is_tallied words ≡ true) × PlanLines p words holds lines)
+-- the lines of the finished statements; or none, where nothing was put to the output
+abbrev pub SomeLines : Predicates → List (List ℕ) → Option (List File) → Sink → Sink → List ℕ → Type 0
+SomeLines p words holds before now lines =
+    ((lines ≡ []) × (now ≡ before)) ⊎ Progress p words holds before now lines
+
+-- the notes failed at a line of counts: the output took the text of its statement and of those before, and nothing
+-- else; and the notes took the lines of those before, and a front of this line
+pub record IsCutOff (p : Predicates) (words : List (List ℕ)) (holds : Option (List File))
+    (before now noted noting : Sink) : Type 0 where
+  pub of : RunOf p words holds
+  pub finished : List Block
+  pub next : Block
+  pub left : List Block
+  pub split : of.plan.blocks ≡ finished ++ next ∷ left
+  pub text : Adds before.written now.written (text_in of (finished ++ next ∷ []))
+  pub lines : List ℕ
+  pub are : AreLinesIn of finished lines
+  pub line : List ℕ
+  pub right : IsTally p.gives of.plan.catalogue.tables (1 + length finished) next line
+  pub wanted : of.request.settings.tally ≡ true
+  pub front : AddsFrontBehind noted.written noting.written lines line
+  pub rose : RoseOrFull noted.faults noting.faults
 
 -- a fault of the output, or, where the words ask for lines of counts, of the notes
 abbrev pub MayFail : List (List ℕ) → Type 0 → Type 0 → Type 0

@@ -11,6 +11,7 @@ use Rattle.table_csv.specs.declared.fault.TableFault.TheVariants as table
 use Rattle.sq_bind.specs.Fault.{place_of}
 use Rattle.sq_bind.specs.declared.fault.BindFault.{BindFault}
 use Rattle.sq_bind.specs.declared.fault.BindFault.TheVariants as bind
+use Rattle.eddyql.specs.Lines.{AddsFrontBehind}
 use Rattle.eddyql.specs.Seen.{Sink}
 use Rattle.eddyql.specs.declared.status.Status.{Status}
 use Rattle.eddyql.specs.declared.status.Status.TheVariants as status
@@ -108,6 +109,12 @@ abbrev pub IsNoted : Sink → Sink → List ℕ → Type 0
 IsNoted before now line =
     Adds before.written now.written line
     ⊎ (RoseOrFull before.faults now.faults × AddsFront before.written now.written line)
+
+-- a sink has lines more, and behind them a line, or a front of it where its count rose
+abbrev pub IsNotedBehind : Sink → Sink → List ℕ → List ℕ → Type 0
+IsNotedBehind before now lines line =
+    Adds before.written now.written (lines ++ line)
+    ⊎ (RoseOrFull before.faults now.faults × AddsFrontBehind before.written now.written lines line)
 
 -- what a run over tables of these names puts to the notes where it would end by a status: nothing where it is done, and
 -- else the line of the status that it ends by, which is that one or want of memory

@@ -1,6 +1,6 @@
 //! The top call: from words, files and an output to a status.
 
-ghost use Rattle.std.specs.Prelude.{◌≡◌, ◌≢◌, ◌⊎◌, ◌++◌, ℕ, false, List, Some, None, Result, Ok, IsSome, All, map};
+ghost use Rattle.std.specs.Prelude.{◌≡◌, ◌≢◌, ◌⊎◌, ℕ, false, List, Some, None, Result, Ok, IsSome, All, map};
 ghost use Rattle.std.specs.String.{string_bytes};
 ghost use Rattle.outside.specs.Files.{File};
 ghost use Rattle.outside.specs.Faults.{NeverFalls, RoseOrFull};
@@ -13,8 +13,8 @@ ghost use Rattle.eddyql.specs.Asked as asking;
 ghost use Rattle.eddyql.specs.Answering.{Answers, Tallied};
 ghost use Rattle.eddyql.specs.Ending.{AnsweredBy, EndedBy, NotedLines, Finished, stop_of};
 ghost use Rattle.eddyql.specs.Faults.{IsPlaced};
-ghost use Rattle.eddyql.specs.Lines.{AllLines, SomeLines, MayFail};
-ghost use Rattle.eddyql.specs.Note.{IsNoted, line_of};
+ghost use Rattle.eddyql.specs.Lines.{AllLines, SomeLines, IsCutOff, MayFail};
+ghost use Rattle.eddyql.specs.Note.{IsNotedBehind, line_of};
 ghost use Rattle.eddyql.specs.Outcome.{IsOutcome, OneOutcome, ReachedBy, predicates, task_text};
 ghost use Rattle.eddyql.specs.Refusal.{UnlessReadOrMemory};
 ghost use Rattle.eddyql.specs.Settings.{AreSettings};
@@ -59,7 +59,7 @@ fn put_task<O: Sink, N: Sink, P: Predicates>(
     requires reachable { All IsReachable blocks.now }
     requires settings { AreSettings request.now.settings }
     ensures { Answers request.now.settings.tally P.gives tables.now 1 blocks.now
-        (task_text request.now.task P.gives tables.now blocks.now)
+        (task_text request.now.task P.gives tables.now)
         (sink_seen (O.written out.old) (O.faults out.old)) (sink_seen (O.written out.new) (O.faults out.new))
         (sink_seen (N.written notes.old) (N.faults notes.old)) (sink_seen (N.written notes.new) (N.faults notes.new))
         result }
@@ -90,6 +90,8 @@ fn run_plan<O: Sink, N: Sink, P: Predicates>(
         (sink_seen (N.written notes.old) (N.faults notes.old)) (sink_seen (N.written notes.new) (N.faults notes.new))
         (task_text request.now.task P.gives plan.now.catalogue.tables plan.now.blocks) result }
     ensures notes { Tallied request.now.settings.tally P.gives plan.now.catalogue.tables 1 plan.now.blocks
+        (task_text request.now.task P.gives plan.now.catalogue.tables)
+        (sink_seen (O.written out.old) (O.faults out.old)) (sink_seen (O.written out.new) (O.faults out.new))
         (sink_seen (N.written notes.old) (N.faults notes.old)) (sink_seen (N.written notes.new) (N.faults notes.new))
         (stop_of result) }
 {
@@ -122,7 +124,8 @@ fn run_query<F: Folder, O: Sink, N: Sink, P: Predicates>(
         (sink_seen (N.written notes.new) (N.faults notes.new)) result }
     ensures lines { let p = predicates (P.number_of functions.now) (P.kinds_of functions.now) P.gives in
         (words : List (List ℕ)) → asking.asked words ≡ Some request.now
-        → NotedLines p words (F.holds folder.old) (sink_seen (N.written notes.old) (N.faults notes.old))
+        → NotedLines p words (F.holds folder.old) (sink_seen (O.written out.old) (O.faults out.old))
+        (sink_seen (O.written out.new) (O.faults out.new)) (sink_seen (N.written notes.old) (N.faults notes.old))
         (sink_seen (N.written notes.new) (N.faults notes.new)) result }
 {
     match plan_for(alloc, request, folder, functions) {
@@ -245,27 +248,35 @@ pub fn run<F: Folder, O: Sink, N: Sink, P: Predicates>(
         → AddsFront (O.written out.old) (O.written out.new) (text_due due) }
 
     // Where lines of counts are wanted, one stands on the notes for each statement of a run that is done,
-    // right for its statement, and nothing else; else nothing is put to them.
+    // right for its statement, whose text the output took, and nothing else; else nothing is put to them.
     ensures tallied { let p = predicates (P.number_of functions.now) (P.kinds_of functions.now) P.gives in
         result ≡ Status.Done → (lines : List ℕ)
-        × AllLines p (map string_bytes words.now) (F.holds folder.old) lines
+        × AllLines p (map string_bytes words.now) (F.holds folder.old)
+        (sink_seen (O.written out.old) (O.faults out.old)) (sink_seen (O.written out.new) (O.faults out.new)) lines
         × Adds (N.written notes.old) (N.written notes.new) lines }
     ensures silent { result ≡ Status.Done → is_tallied (map string_bytes words.now) ≡ false
         → N.written notes.new ≡ N.written notes.old }
     ensures silent_count { result ≡ Status.Done → N.faults notes.new ≡ N.faults notes.old }
 
-    // Behind the lines of the first statements, or none, one line says why a run was refused; but nothing is put
-    // behind a fault of the notes at a line of counts.
+    // Behind the lines of just the finished statements one line says why a run was refused; but nothing is put
+    // behind a fault of the notes at the line of the one whose text was last written.
     ensures noted { let p = predicates (P.number_of functions.now) (P.kinds_of functions.now) P.gives in
-        result ≢ Status.Done → (lines : List ℕ)
-        × SomeLines p (map string_bytes words.now) (F.holds folder.old) lines
-        × IsNoted (sink_seen (N.written notes.old) (N.faults notes.old))
-        (sink_seen (N.written notes.new) (N.faults notes.new))
-        (lines ++ line_of (names_asked (map string_bytes words.now)) result) }
+        result ≢ Status.Done → ((lines : List ℕ)
+        × SomeLines p (map string_bytes words.now) (F.holds folder.old)
+        (sink_seen (O.written out.old) (O.faults out.old)) (sink_seen (O.written out.new) (O.faults out.new)) lines
+        × IsNotedBehind (sink_seen (N.written notes.old) (N.faults notes.old))
+        (sink_seen (N.written notes.new) (N.faults notes.new)) lines
+        (line_of (names_asked (map string_bytes words.now)) result))
+        ⊎ ((result ≡ Status.Write) × IsCutOff p (map string_bytes words.now) (F.holds folder.old)
+        (sink_seen (O.written out.old) (O.faults out.old)) (sink_seen (O.written out.new) (O.faults out.new))
+        (sink_seen (N.written notes.old) (N.faults notes.old))
+        (sink_seen (N.written notes.new) (N.faults notes.new))) }
     ensures cut { let p = predicates (P.number_of functions.now) (P.kinds_of functions.now) P.gives in
-        result ≡ Status.Write → ¬ (RoseOrFull (O.faults out.old) (O.faults out.new)) → (lines : List ℕ)
-        × SomeLines p (map string_bytes words.now) (F.holds folder.old) lines
-        × AddsFront (N.written notes.old) (N.written notes.new) lines }
+        result ≡ Status.Write → ¬ (RoseOrFull (O.faults out.old) (O.faults out.new))
+        → IsCutOff p (map string_bytes words.now) (F.holds folder.old)
+        (sink_seen (O.written out.old) (O.faults out.old)) (sink_seen (O.written out.new) (O.faults out.new))
+        (sink_seen (N.written notes.old) (N.faults notes.old))
+        (sink_seen (N.written notes.new) (N.faults notes.new)) }
 
     // All of this in one, for those who hand the words on.
     ensures finished { let p = predicates (P.number_of functions.now) (P.kinds_of functions.now) P.gives in

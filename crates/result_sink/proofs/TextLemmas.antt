@@ -1,17 +1,17 @@
 -- The text of fields and records, piece by piece.
-use Rattle.std.proofs.Common.{◌≡◌, ◌≢◌, ℕ, ◌+◌, ◌<◌, ◌≤◌, Bool, true, false, cond, eqb, ◌==◌, List, [], ◌∷◌, ◌++◌, length, map, take, drop, get_or, refl, sym, ◌∙◌, ap, arith, append_assoc}
+use Rattle.std.proofs.Common.{◌≡◌, ◌≢◌, ℕ, ◌+◌, ◌<◌, ◌≤◌, Bool, true, false, cond, eqb, ◌==◌, if◌then◌else◌, List, [], ◌∷◌, ◌++◌, length, map, take, drop, get_or, refl, sym, ◌∙◌, ap, subst, arith, append_assoc}
 use Rattle.std.proofs.lemmas.List.{take_more, take_all, get_or-map, take-append-drop, length-append, length-map, append-nil}
 use Rattle.std.proofs.lemmas.Bool.Decides.{Decides-eqb}
 use Rattle.std.specs.List.{flat_map}
 use Rattle.std.specs.Prelude.{Option, Result, Ok, Err, OnOk}
 use Rattle.outside.specs.Told.{Adds}
-use Rattle.outside.proofs.Laws.{Adds-twice}
+use Rattle.outside.proofs.Laws.{Adds-nothing, Adds-twice}
 use Rattle.std.proofs.lemmas.List.Concat.{flat_map-append, flat_map-cons}
 use Rattle.sq_value.specs.Relation.{Relation}
 use Rattle.sq_expr.specs.declared.block.Block.{Block}
 use Rattle.bag_meaning.specs.Answer.{answer_text, heading_fields, row_fields}
 use Rattle.bag_meaning.specs.declared.combo.Combo.{Combo}
-use Rattle.result_sink.specs.Ready.{rows_of_combo, record_text}
+use Rattle.result_sink.specs.Ready.{AddsPart, rows_of_combo, record_text}
 use Rattle.csv.proofs.WriteFacts.{escaped-append, row-step}
 use Rattle.csv.specs.Writing.{default_writer, escaped, field_text, fields_text, row_body, row_text, is_blank, next_sep}
 
@@ -140,3 +140,39 @@ pub Adds-at_ok : {T E : Type 0} (r : Result T E) (old mid new : Option (List ℕ
     → Adds old mid first → OnOk r (Adds mid new second) → OnOk r (Adds old new (first ++ second))
 Adds-at_ok (Ok x) old mid new first second h k = Adds-twice old mid new first second h k
 Adds-at_ok (Err e) old mid new first second h k = tt
+
+-- ---- a part of a text
+
+-- a text that isn't empty, of which nothing was added
+pub AddsPart-nothing : (told : Option (List ℕ)) (text : List ℕ) → text ≢ [] → AddsPart told told text
+AddsPart-nothing told text some = ([], text, refl, some, Adds-nothing told)
+
+-- a text, and then a part of the next
+pub AddsPart-after : (old mid new : Option (List ℕ)) (first second : List ℕ)
+    → Adds old mid first → AddsPart mid new second → AddsPart old new (first ++ second)
+AddsPart-after old mid new first second h (front, rest, split, some, k) =
+    (first ++ front, rest, ap (λ (w : List ℕ). first ++ w) split ∙ sym (append_assoc first front rest), some, Adds-twice old mid new first front h k)
+
+-- a part of a text is one of what begins with it
+pub AddsPart-longer : (old new : Option (List ℕ)) (text more : List ℕ) → AddsPart old new text → AddsPart old new (text ++ more)
+AddsPart-longer old new text more (front, rest, split, some, k) =
+    (front, rest ++ more, ap (λ (w : List ℕ). w ++ more) split ∙ append_assoc front rest more, still rest some, k)
+  where
+    still : (xs : List ℕ) → xs ≢ [] → xs ++ more ≢ []
+    still [] n = absurd (n refl)
+    still (x ∷ xs) n = λ e. cc
+
+-- a text, a part of the next, and a whole that begins with both
+pub AddsPart-within : (old mid new : Option (List ℕ)) (first second more text : List ℕ) → text ≡ (first ++ second) ++ more
+    → Adds old mid first → AddsPart mid new second → AddsPart old new text
+AddsPart-within old mid new first second more text split h k =
+    subst (AddsPart old new) (sym split)
+    (AddsPart-longer old new (first ++ second) more (AddsPart-after old mid new first second h k))
+
+-- a record's text ends with a line feed, so it is never empty
+pub row_text-some : (fields : List (List ℕ)) → row_text default_writer fields ≢ []
+row_text-some fields e =
+    let blank = if is_blank default_writer fields then 34 ∷ 34 ∷ [] else [] in
+    let long = length-append (row_body default_writer fields) (blank ++ (10 ∷ [])) in
+    let end = length-append blank (10 ∷ []) in
+    absurd (omega (arith, long, end, ap (length {A = ℕ}) e))

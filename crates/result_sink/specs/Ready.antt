@@ -1,5 +1,6 @@
--- When combinations can be put in order and written: the columns that are compared and shown are there.
-use Rattle.std.specs.Prelude.{◌≡◌, ℕ, ◌≤◌, List, length, take, IsSome, All}
+-- When combinations can be put in order and written: the columns that are compared and shown are there. And what was
+-- added where there was no memory for a record.
+use Rattle.std.specs.Prelude.{◌≡◌, ◌≢◌, ℕ, ◌≤◌, List, [], ◌++◌, length, take, Option, IsSome, All}
 use Rattle.csv.specs.Writing.{row_text, default_writer}
 use Rattle.sq_value.specs.Relation.{Relation}
 use Rattle.sq_expr.specs.Fits.{kind_in}
@@ -10,6 +11,7 @@ use Rattle.sq_expr.specs.declared.block.OrderKey.{OrderKey}
 use Rattle.bag_meaning.specs.Bag.{uses_of}
 use Rattle.bag_meaning.specs.Answer.{row_fields}
 use Rattle.bag_meaning.specs.declared.combo.Combo.{Combo}
+use Rattle.outside.specs.Told.{Adds}
 
 -- a column of an alias is there
 abbrev pub HasColumn : Block → List Relation → ColumnOf → Type 0
@@ -44,3 +46,8 @@ Differs block x y = rows_of_combo block x ≡ rows_of_combo block y → ⊥
 -- the text of the record of a combination
 abbrev pub record_text : Block → List Relation → Combo → List ℕ
 record_text block tables combo = row_text default_writer (row_fields block tables (rows_of_combo block combo))
+
+-- a front of a text was added, and not the whole text
+abbrev pub AddsPart : Option (List ℕ) → Option (List ℕ) → List ℕ → Type 0
+AddsPart before now text =
+    (front : List ℕ) × (rest : List ℕ) × (text ≡ front ++ rest) × (rest ≢ []) × Adds before now front

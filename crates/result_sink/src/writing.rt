@@ -1,12 +1,12 @@
 //! Writes an answer as CSV: the heading, and a record for each combination.
 
-ghost use Rattle.std.specs.Prelude.{◌≡◌, OnOk, OnErr, map};
+ghost use Rattle.std.specs.Prelude.{◌≡◌, Err, OnOk, OnErr, map};
 ghost use Rattle.std.specs.List.{flat_map};
 ghost use Rattle.csv.specs.Writing.{default_writer, row_text};
 ghost use Rattle.bag_meaning.specs.Answer.{heading_fields, answer_text};
 ghost use Rattle.outside.specs.Faults.{NeverFalls, RoseOrFull};
 ghost use Rattle.outside.specs.Told.{Adds, AddsFront};
-ghost use Rattle.result_sink.specs.Ready.{IsShown, rows_of_combo, record_text};
+ghost use Rattle.result_sink.specs.Ready.{IsShown, AddsPart, rows_of_combo, record_text};
 
 use crate::ahead::read_shown;
 use crate::fault::WriteFault;
@@ -22,6 +22,7 @@ fn put_line<O: Sink>(line: &[u8], out: &mut O) -> Result<(), WriteFault>
     ensures counts { NeverFalls (O.faults out.old) (O.faults out.new) }
     ensures ok { OnOk result (Adds (O.written out.old) (O.written out.new) line.now) }
     ensures failed { OnErr result (RoseOrFull (O.faults out.old) (O.faults out.new)) }
+    ensures only { OnErr result (result ≡ Err WriteFault.Failed) }
     ensures front { OnErr result (AddsFront (O.written out.old) (O.written out.new) line.now) }
     ensures kept { OnOk result (O.faults out.new ≡ O.faults out.old) }
 {
@@ -39,12 +40,14 @@ fn put_heading<O: Sink>(line: &mut Vec<u8>, block: &Block, out: &mut O) -> Resul
     ensures failed { result ≡ Err WriteFault.Failed → RoseOrFull (O.faults out.old) (O.faults out.new) }
     ensures front { OnErr result (AddsFront (O.written out.old) (O.written out.new)
         (row_text default_writer (heading_fields block.now))) }
+    ensures short { result ≡ Err WriteFault.Memory → AddsPart (O.written out.old) (O.written out.new)
+        (row_text default_writer (heading_fields block.now)) }
     ensures kept { OnOk result (O.faults out.new ≡ O.faults out.old) }
 {
-    if heading_line(line, block).is_err() {
-        return Err(WriteFault::Memory);
+    match heading_line(line, block) {
+        Ok(()) => put_line(line, out),
+        Err(_) => Err(WriteFault::Memory),
     }
-    put_line(line, out)
 }
 
 /// One put of the record of a combination.
@@ -62,12 +65,14 @@ fn put_record<O: Sink>(
     ensures failed { result ≡ Err WriteFault.Failed → RoseOrFull (O.faults out.old) (O.faults out.new) }
     ensures front { OnErr result (AddsFront (O.written out.old) (O.written out.new)
         (record_text block.now tables.now combo.now)) }
+    ensures short { result ≡ Err WriteFault.Memory → AddsPart (O.written out.old) (O.written out.new)
+        (record_text block.now tables.now combo.now) }
     ensures kept { OnOk result (O.faults out.new ≡ O.faults out.old) }
 {
-    if record_line(line, block, tables, combo).is_err() {
-        return Err(WriteFault::Memory);
+    match record_line(line, block, tables, combo) {
+        Ok(()) => put_line(line, out),
+        Err(_) => Err(WriteFault::Memory),
     }
-    put_line(line, out)
 }
 
 /// Keeps what was read ahead. No clause says what the line is then, since a record begins anew.
@@ -92,6 +97,8 @@ fn put_records<O: Sink>(
     ensures failed { result ≡ Err WriteFault.Failed → RoseOrFull (O.faults out.old) (O.faults out.new) }
     ensures front { OnErr result (AddsFront (O.written out.old) (O.written out.new)
         (flat_map (record_text block.now tables.now) combos.now)) }
+    ensures short { result ≡ Err WriteFault.Memory → AddsPart (O.written out.old) (O.written out.new)
+        (flat_map (record_text block.now tables.now) combos.now) }
     ensures kept { OnOk result (O.faults out.new ≡ O.faults out.old) }
 {
     let mut place = 0usize;
@@ -110,8 +117,8 @@ fn put_records<O: Sink>(
 /// one of nulls.
 ///
 /// # Errors
-/// `Failed`: the output's count of faults rose. `Memory`: there is no memory for a record. After
-/// either, a front of the answer's text was written.
+/// `Failed`: the output's count of faults rose. `Memory`: there is no memory for a record, and not all of
+/// the text was written. After either, a front of the answer's text was written.
 pub fn write_answer<O: Sink>(
     alloc: Global,
     block: &Block,
@@ -126,6 +133,8 @@ pub fn write_answer<O: Sink>(
     ensures failed { result ≡ Err WriteFault.Failed → RoseOrFull (O.faults out.old) (O.faults out.new) }
     ensures front { OnErr result (AddsFront (O.written out.old) (O.written out.new)
         (answer_text block.now tables.now (map (rows_of_combo block.now) combos.now))) }
+    ensures short { result ≡ Err WriteFault.Memory → AddsPart (O.written out.old) (O.written out.new)
+        (answer_text block.now tables.now (map (rows_of_combo block.now) combos.now)) }
     ensures kept { OnOk result (O.faults out.new ≡ O.faults out.old) }
 {
     let mut line = Vec::new(alloc);

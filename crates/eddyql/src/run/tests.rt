@@ -7,7 +7,7 @@
 
 use super::run;
 use crate::status::Status;
-use outside::{MemoryFolder, MemorySink, SureFolder, SureSink};
+use outside::{Folder, MemoryFolder, MemorySink, SureFolder, SureSink};
 use sq_value::NoPredicates;
 use std::alloc::Global;
 use std::test::Fail;
@@ -32,6 +32,9 @@ people | \u{feff}id,name,city^/1,\"Ng, Ada\",Oslo^/2,Bob,^/\n\
 orders | oid,person,total/7,1,120/8,2,80/9,1,35/\n\
 p | sku,cost:dec2/1,1.5/2,10/3,-0.25/4,/\n\
 r | rate:dec3/1.500/10.000/\n\
+wide | c1,c2,c3,c4,c5,c6,c7,c8,c9,c10,c11,c12,c13,c14,c15,c16,c17,c18,c19,c20,c21,c22,c23,c24,c25,c26,c27,c28,c29,c30\
+    ,c31,c32,c33,c34,c35,c36,c37,c38,c39,c40,c41,c42,c43,c44,c45,c46,c47,c48,c49,c50,c51,c52,c53,c54,c55,c56,c57,c58,\
+    c59,c60,c61,c62,c63,c64,c65/\n\
 nothing | \n\
 ";
 
@@ -39,7 +42,7 @@ const SPENDERS: &str =
     "-- big spenders\nselect p.name as who, o.total from people p join orders o on o.person = p.id \
     where o.total between 50 and 200 and p.city is not null order by o.total desc, who;";
 
-// Answers.
+// Answers. A fourth load would fail in the one with two tables: each file is loaded once.
 const DONE: &str = "\
 cust ord | SELECT name, amt FROM cust c, ord o WHERE c.id = o.cid |  | 0 Done | name,amt/Ada,5/Ada,7/Bob,5/ | \n\
 cust ord | SELECT name, amt FROM cust c, ord o WHERE c.id = o.cid ORDER BY amt DESC |  | 0 Done | name,amt/Ada,7/A\
@@ -68,6 +71,7 @@ p r | SELECT sku, cost, rate FROM p, r WHERE cost = rate |  | 0 Done | sku,cost,
     | \n\
 p | SELECT sku, cost FROM p WHERE cost >= sku |  | 0 Done | sku,cost/1,1.50/2,10.00/ | \n\
 p | SELECT sku FROM p WHERE 4 * cost = -1 |  | 0 Done | sku/3/ | \n\
+cust ord | SELECT name, amt FROM cust c, ord o WHERE c.id = o.cid | load 4 | 0 Done | name,amt/Ada,5/Ada,7/Bob,5/ | \n\
 p | SELECT cost FROM p ORDER BY cost |  | 0 Done | cost/-0.25/1.50/10.00/\"\"/ | \n\
 ";
 
@@ -85,6 +89,16 @@ const TALLIED: &str = "\
     /2/ | query 1: built 3 hops 2 looked 0/query 2: built 1 hops 3 looked 0/\n\
 ! --tally --policy script --route b q n=n | SELECT x FROM n WHERE x = 2 |  | 0 Done | x/2/ | query 1: built 3 hops \
     3 looked 0/\n\
+! --tally --policy script --route v0 q cust=cust ord=ord | SELECT name, amt FROM cust c, ord o WHERE c.id = o.cid ORD\
+    ER BY amt DESC |  | 0 Done | name,amt/Ada,7/Ada,5/Bob,5/ | query 1: built 3,4 hops 3 looked 0/\n\
+! --tally --policy script --route a0,a1 q cust=cust ord=ord | SELECT name, amt FROM cust c, ord o WHERE c.id = o.cid \
+    ORDER BY amt DESC |  | 0 Done | name,amt/Ada,7/Ada,5/Bob,5/ | query 1: built 3,4 hops 4 looked 0/\n\
+! --tally --policy script --route v0 q ord=ord | SELECT o.oid FROM ord o, ord p WHERE o.cid = p.cid AND o.oid <= p.oi\
+    d |  | 0 Done | oid/10/10/11/12/ | query 1: built 4,4 hops 4 looked 0/\n\
+! --tally --policy script --route a0,a1 q ord=ord | SELECT o.oid FROM ord o, ord p WHERE o.cid = p.cid AND o.oid <= p\
+    .oid |  | 0 Done | oid/10/10/11/12/ | query 1: built 4,4 hops 5 looked 0/\n\
+! --tally --policy pressure q ord=ord | SELECT o.oid FROM ord o, ord p WHERE o.cid = p.cid AND o.oid <= p.oid |  | 0 \
+    Done | oid/10/10/11/12/ | query 1: built 4,4 hops 4 looked 0/\n\
 ! --tally q cust=cust ord=ord | SELECT name, amt FROM cust c, ord o WHERE c.id = o.cid ORDER BY amt DESC | note 3 \
     | 6 Write | name,amt/Ada,7/Ada,5/Bob,5/ | que\n\
 ! --tally q n=n | SELECT x FROM n; SELECT x FROM n | note 45 | 6 Write | x/1/2/3//x/1/2/3/ | query 1: built 3 hops \
@@ -110,6 +124,12 @@ const DEMO: &str = "\
 ! --demo 1000 |  |  | 0 Done | query,rows/q1,100/q2,50/q3,540/ | \n\
 ! --demo 1000 --policy pressure --seed 18446744073709551615 |  |  | 0 Done | query,rows/q1,100/q2,50/q3,540/ | \n\
 ! --demo 1 |  |  | 0 Done | query,rows/q1,0/q2,1/q3,0/ | \n\
+! --demo 1 --tally --policy script --route b |  |  | 0 Done | query,rows/q1,0/q2,1/q3,0/ | query 1: built 1,1 hops 4 \
+    looked 0/query 2: built 1,1,1 hops 5 looked 0/query 3: built 1,1 hops 4 looked 0/\n\
+! --demo 1 --tally --policy script --route b |  | note 40 | 6 Write | query,rows/q1,0/q2,1/ | query 1: built 1,1 hop\
+    s 4 looked 0/query\n\
+! --demo 1 --tally --policy script --route b |  | put 3 0 | 6 Write | query,rows/q1,0/ | query 1: built 1,1 hops 4 lo\
+    oked 0/write fault/\n\
 ! --demo 1 |  | put 1 4 | 6 Write | quer | write fault/\n\
 ! --demo 1 |  | put 3 0 | 6 Write | query,rows/q1,0/ | write fault/\n\
 ";
@@ -171,6 +191,8 @@ cents | SELECT x FROM n |  | 4 BadTable { table: 0, fault: BadDecimal { rec: 1, 
     ord 1 field 1 is not a decimal/\n\
 twice | SELECT x FROM n |  | 4 BadTable { table: 0, fault: RepeatedColumn { field: 2 } } |  | table twice: field \
     2 repeats a column/\n\
+wide | SELECT x FROM n |  | 7 Limit { of: Table { table: 0, fault: TooManyColumns } } |  | limit: columns of table wi\
+    de/\n\
 --index n.y n | SELECT x FROM n |  | 4 NoColumn { access: 1 } |  | access 1: no such column/\n\
 --index n.X --lookup t.z n t | SELECT x FROM n |  | 4 NoColumn { access: 2 } |  | access 2: no such column/\n\
 ! absent n=n | SELECT x FROM n |  | 5 NotFound { file: Script } |  | not found: script/\n\
@@ -328,22 +350,30 @@ fn runs_end_as_they_must(rt: HostRuntime) -> Result<(), Fail> {
     Ok(())
 }
 
-// How a run of a script over the table `n` ends, and what is written.
-fn ended(alloc: Global, texts: &str, script: &[u8], told: &str) -> Result<bool, Fail> {
+// Whether a run ends so, with this note, and writes nothing but where it is done.
+fn ended_in<F: Folder>(
+    alloc: Global,
+    texts: &str,
+    folder: &mut F,
+    told: &str,
+    note: &str,
+) -> Result<bool, Fail> {
     let words = words_of(alloc, texts)?;
-    let mut folder = folder_of(alloc, script)?;
     let mut out = MemorySink::with_room(alloc, 99)?;
     let mut notes = MemorySink::with_room(alloc, 99)?;
-    let status = run(
-        alloc,
-        &words,
-        &mut folder,
-        &mut out,
-        &mut notes,
-        &NoPredicates,
-    );
+    let status = run(alloc, &words, folder, &mut out, &mut notes, &NoPredicates);
     let said = format!(in alloc; "{status:?}")?;
-    Ok(said.as_str() == told && out.written().is_empty() == (status != Status::Done))
+    Ok(
+        said.as_str() == told
+            && notes.written() == note.as_bytes()
+            && out.written().is_empty() == (status != Status::Done),
+    )
+}
+
+// The same of a script over the files.
+fn ended(alloc: Global, texts: &str, script: &[u8], told: &str, note: &str) -> Result<bool, Fail> {
+    let mut folder = folder_of(alloc, script)?;
+    ended_in(alloc, texts, &mut folder, told, note)
 }
 
 // A script of 200 kB before its words, as comment lines or as blanks, or in a text of its condition.
@@ -361,39 +391,9 @@ fn long_scripts(rt: HostRuntime) -> Result<(), Fail> {
     text.extend_from_slice(b"SELECT v FROM v WHERE v < '")?;
     text.extend_from_slice(&vec![in alloc; b'w'; 200_000]?)?;
     text.extend_from_slice(b"'")?;
-    assert!(rt; ended(alloc, "n", &comments, "Done")?);
-    assert!(rt; ended(alloc, "n", &blanks, "Done")?);
-    assert!(rt; ended(alloc, "v", &text, "Done")?);
-    Ok(())
-}
-
-// A file of one byte more than the most, and numbers of statements and conjuncts at their limits.
-#[test]
-fn at_limits(rt: HostRuntime) -> Result<(), Fail> {
-    let alloc = rt.alloc();
-    let long = vec![in alloc; b' '; 67_108_865]?;
-    assert!(rt; ended(alloc, "n", &long, "Limit { of: File { file: Script } }")?);
-    let mut text = Vec::new(alloc);
-    for _ in 0..65 {
-        text.extend_from_slice(b"SELECT x FROM n;")?;
-    }
-    assert!(rt;
-        ended(
-            alloc,
-            "n",
-            &text,
-            "Limit { of: Parse { fault: TooManyStatements { at: 1024 } } }"
-        )?
-    );
-    let mut text = Vec::new(alloc);
-    text.extend_from_slice(b"SELECT x FROM n WHERE x=1")?;
-    for _ in 0..47 {
-        text.extend_from_slice(b" AND x=1")?;
-    }
-    assert!(rt; ended(alloc, "n", &text, "Done")?);
-    text.extend_from_slice(b" AND x=1")?;
-    let many = "Limit { of: Bind { statement: 1, fault: TooManyConjuncts { at: 406 } } }";
-    assert!(rt; ended(alloc, "n", &text, many)?);
+    assert!(rt; ended(alloc, "n", &comments, "Done", "")?);
+    assert!(rt; ended(alloc, "n", &blanks, "Done", "")?);
+    assert!(rt; ended(alloc, "v", &text, "Done", "")?);
     Ok(())
 }
 
@@ -441,3 +441,5 @@ fn sure_folder_and_sink(rt: HostRuntime) -> Result<(), Fail> {
     assert!(rt; out.written() == b"x\n1".as_slice());
     Ok(())
 }
+
+mod limits;

@@ -4,7 +4,7 @@ use Rattle.std.proofs.lemmas.List.Elements.{All-head, All-tail}
 use Rattle.sq_expr.specs.Fits.{IsFit}
 use Rattle.sq_expr.specs.Reach.{IsReachable}
 use Rattle.sq_expr.specs.declared.block.Block.{Block}
-use Rattle.eddyql.proofs.TallyLemmas.{answers_none, answers_all, answers_first, answers_through}
+use Rattle.eddyql.proofs.ProgressLemmas.{answers_none, answers_all, answers_first, answers_through}
 use Rattle.eddyql.proofs.answering.put_answers.Goals as goal
 
 pub returns-in_default : goal.returns-in_default

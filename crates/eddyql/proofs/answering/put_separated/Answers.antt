@@ -1,18 +1,18 @@
 use Rattle.std.proofs.Common.{[], ◌∷◌}
 use Rattle.eddyql.specs.Outcome.{block_text}
-use Rattle.eddyql.proofs.TallyLemmas.{answers_unwritten, answers_written, answers_through}
+use Rattle.eddyql.proofs.TallyLemmas.{one_unwritten, one_behind, one_through}
 use Rattle.eddyql.proofs.answering.put_separated.Goals as goal
 
 pub returns-in_err-put_empty_line : goal.returns-in_err-put_empty_line
 returns-in_err-put_empty_line g c =
-    answers_through c.args.settings.now.tally g.P.Predicates.gives c.args.tables.now c.args.number (c.args.block.now ∷ []) _ _ _ _ _ c.from_residual.result
+    one_through c.args.settings.now.tally g.P.Predicates.gives c.args.tables.now c.args.number c.args.block.now _ _ _ _ _ c.from_residual.result
     c.in_err-put_empty_line.field-0.0 c.from_residual.ensures.1
-    (answers_unwritten c.args.settings.now.tally g.P.Predicates.gives c.args.tables.now c.args.number (c.args.block.now ∷ []) (10 ∷ [])
+    (one_unwritten c.args.settings.now.tally g.P.Predicates.gives c.args.tables.now c.args.number c.args.block.now (10 ∷ [])
     (block_text g.P.Predicates.gives c.args.tables.now c.args.block.now) _ _ _ c.put_empty_line.result c.in_err-put_empty_line.field-0.0 c.in_err-put_empty_line.was
     c.put_empty_line.ensures.output c.put_empty_line.ensures.wrote)
 
 pub returns : goal.returns
 returns g c =
-    answers_written c.args.settings.now.tally g.P.Predicates.gives c.args.tables.now c.args.number (c.args.block.now ∷ []) (10 ∷ [])
+    one_behind c.args.settings.now.tally g.P.Predicates.gives c.args.tables.now c.args.number c.args.block.now (10 ∷ [])
     (block_text g.P.Predicates.gives c.args.tables.now c.args.block.now) _ _ _ _ _ c.put_empty_line.result c.put_answer.result c.in_ok-put_empty_line.was
     c.put_empty_line.ensures.wrote c.put_answer.ensures

@@ -10,10 +10,10 @@ returns-in-Ok-clause-ended g c =
 
 pub returns-in-Ok-clause-lines : goal.returns-in-Ok-clause-lines
 returns-in-Ok-clause-lines g c =
-    λ words e. lines_answered _ words c.args.request.now c.in-Ok.plan _ _ _ _ c.run_plan.result e c.in-Ok.ensures.went c.run_plan.ensures.notes
+    λ words e. lines_answered _ words c.args.request.now c.in-Ok.plan _ _ _ _ _ _ c.run_plan.result e c.in-Ok.ensures.went c.run_plan.ensures.notes
 
 pub returns-in-Err-clause-ended : goal.returns-in-Err-clause-ended
 returns-in-Err-clause-ended g c = λ words e. ended_stopped _ words c.args.request.now _ _ _ _ c.in-Err.refusal e c.in-Err.ensures.stopped
 
 pub returns-in-Err-clause-lines : goal.returns-in-Err-clause-lines
-returns-in-Err-clause-lines g c = λ words e. lines_unput _ words _ _ _ c.in-Err.refusal c.in-Err.ensures.stopped.early
+returns-in-Err-clause-lines g c = λ words e. lines_unput _ words _ _ _ _ c.in-Err.refusal c.in-Err.ensures.stopped.early
