@@ -1,5 +1,5 @@
 -- How tables are reached: by accesses of which each names a column of its table.
-use Rattle.std.proofs.Common.{◌≡◌, ℕ, zero, suc, ◌+◌, ◌<◌, ◌≤◌, Bool, true, false, not, cond, eqb, ltb, List, [], ◌∷◌, ◌++◌, length, take, drop, get_or, map, Option, Some, None, Result, Ok, Err, refl, sym, ◌∙◌, ap, subst, ◌⊎◌, inl, inr, arith, append-nil}
+use Rattle.std.proofs.Common.{◌≡◌, ℕ, suc, ◌+◌, ◌<◌, ◌≤◌, Bool, true, false, not, cond, eqb, ltb, List, [], ◌∷◌, ◌++◌, length, take, drop, get_or, map, Option, Some, None, Ok, Err, refl, sym, ◌∙◌, ap, subst, inl, inr, arith, append-nil}
 use Rattle.std.specs.Prelude.{All, IsSome, IfSome, is_some, position, slice_get, option_map, option_and_then, ◌&&◌, ◌||◌}
 use Rattle.std.specs.List.{find, list_any, position_or_len, range_with_len, IsDistinct, AllByRecursion}
 use Rattle.std.specs.Option.{option_map_or}

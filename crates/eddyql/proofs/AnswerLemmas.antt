@@ -1,8 +1,6 @@
 -- Answers: the matches that are found, put in order, are the answer; and texts that are written one behind another.
-use Rattle.std.proofs.Common.{◌≡◌, ◌≢◌, ℕ, ◌+◌, ◌<◌, ◌≤◌, List, [], ◌∷◌, ◌++◌, length, take, drop, get_or, map, Option, Some, None, Result, Ok, Err, refl, sym, ◌∙◌, ap, subst, arith, append-nil, append_assoc}
-use Rattle.std.specs.Prelude.{All, AllPairs, IfOk, OnOk, OnErr}
-use Rattle.std.specs.Result.{IsErrAnd}
-use Rattle.std.specs.List.{flat_map}
+use Rattle.std.proofs.Common.{◌≡◌, ◌≢◌, ℕ, List, [], ◌∷◌, ◌++◌, length, take, get_or, map, Option, Result, Ok, Err, refl, sym, ◌∙◌, ap, subst, arith}
+use Rattle.std.specs.Prelude.{All, AllPairs, IfOk}
 use Rattle.std.specs.List.Sorted.{IsPermutation}
 use Rattle.std.specs.declared.cmp.Ordering.{Ordering}
 use Rattle.std.specs.declared.cmp.Ordering.TheVariants.{Less, Equal}
@@ -10,11 +8,9 @@ use Rattle.std.specs.Ordering.{nat_cmp, ordering_then}
 use Rattle.std.specs.Cmp.Lexicographic.{slice_cmp}
 use Rattle.std.proofs.lemmas.Bool.Decides.{nat_tests}
 use Rattle.std.proofs.Math.Seq.{take-append_seam}
-use Rattle.std.proofs.lemmas.List.{length-map, get_or-map, take_more}
-use Rattle.std.proofs.lemmas.List.Concat.{flat_map-append, flat_map-cons}
+use Rattle.std.proofs.lemmas.List.{length-map, get_or-map}
 use Rattle.std.proofs.lemmas.List.Elements.{All-head, All-tail}
 use Rattle.std.proofs.lemmas.List.Sorted.{IsPermutation-map, IsPermutation-sym, IsPermutation-trans}
-use Rattle.std.proofs.lemmas.Result.{err_from_is_err_and}
 use Rattle.sq_value.specs.Relation.{Relation}
 use Rattle.sq_value.specs.declared.value.Value.{Value}
 use Rattle.sq_value.specs.declared.value.Truth.{Truth}
@@ -28,11 +24,9 @@ use Rattle.bag_meaning.specs.Combination.{padded, stamped}
 use Rattle.bag_meaning.specs.declared.combo.Combo.{Combo}
 use Rattle.bag_meaning.proofs.AnswerLemmas.{IsBefore, AllPairs-bag, IsAnswer-answer, IsAnswer-only}
 use Rattle.bag_meaning.proofs.KeyLemmas.{answer_order_total}
-use Rattle.bag_meaning.proofs.ProductRange.{IsCombination, bag-in_range}
+use Rattle.bag_meaning.proofs.ProductRange.{bag-in_range}
 use Rattle.eddy_runs.specs.Complete.{IsBagOf}
-use Rattle.outside.specs.Told.{Adds, AddsFront}
-use Rattle.outside.specs.Faults.{NeverFalls, RoseOrFull}
-use Rattle.outside.proofs.Laws.{RoseOrFull-earlier, RoseOrFull-later, Adds-nothing, Adds-twice, AddsFront-whole, AddsFront-nothing, AddsFront-after, AddsFront-longer}
+use Rattle.outside.proofs.Laws.{RoseOrFull-earlier, Adds-nothing, Adds-twice, AddsFront-nothing, AddsFront-after, AddsFront-longer}
 use Rattle.csv.specs.Writing.{row_text, default_writer}
 use Rattle.result_sink.proofs.TextLemmas.{row_text-some}
 use Rattle.result_sink.specs.Ready.{IsShown, IsOrdered, Differs, rows_of_combo}

@@ -1,12 +1,11 @@
 -- Steps over a folder, one behind another; and texts that are written one behind another.
-use Rattle.std.proofs.Common.{◌≡◌, ℕ, ◌≤◌, List, [], ◌∷◌, ◌++◌, Option, Some, None, Result, Ok, Err, refl, sym, ◌∙◌, ap, subst, ◌⊎◌, inl, inr, arith}
-use Rattle.std.specs.Prelude.{IsSome, IfErr, OnOk, OnErr}
+use Rattle.std.proofs.Common.{◌≡◌, ℕ, List, Result, ◌∙◌, subst, arith}
+use Rattle.std.specs.Prelude.{IsSome, IfErr}
 use Rattle.std.specs.Result.{IsErrAnd}
 use Rattle.std.proofs.lemmas.Result.{err_from_is_err_and}
 use Rattle.outside.specs.Files.{File}
-use Rattle.outside.specs.Faults.{NeverFalls, RoseOrFull}
+use Rattle.outside.specs.Faults.{RoseOrFull}
 use Rattle.eddyql.specs.Doing.{Went, Stopped, Refuses, never}
-use Rattle.eddyql.specs.Refusal.{MayRefuse, IsEarly, UnlessReadOrMemory}
 use Rattle.eddyql.specs.Seen.{Folder}
 use Rattle.eddyql.specs.declared.status.FileOf.{FileOf}
 use Rattle.eddyql.specs.declared.status.Status.{Status}

@@ -1,8 +1,8 @@
 -- Files that are loaded, and the tables of words, in order.
-use Rattle.std.proofs.Common.{◌≡◌, ◌≢◌, ℕ, suc, ◌+◌, ◌<◌, ◌≤◌, Bool, true, false, cond, ltb, List, [], ◌∷◌, ◌++◌, length, take, drop, get_or, Option, Some, None, Result, Ok, Err, refl, sym, ◌∙◌, ap, subst, ◌⊎◌, inl, inr, arith}
+use Rattle.std.proofs.Common.{◌≡◌, ◌≢◌, ℕ, suc, ◌+◌, ◌<◌, ◌≤◌, Bool, cond, List, [], ◌∷◌, ◌++◌, length, take, drop, get_or, Option, Some, None, Result, Ok, Err, refl, sym, ◌∙◌, ap, subst, ◌⊎◌, inl, inr, arith}
 use Rattle.std.specs.Prelude.{option_map, map, IsSome, IsOk}
-use Rattle.std.proofs.lemmas.List.{take_all, take_more, drop_more, take-append-drop, length-take, length-take-le, length-append, map-append}
-use Rattle.std.proofs.lemmas.Bool.{lt-ltb, ltb-false, le-ltb, cases_lt}
+use Rattle.std.proofs.lemmas.List.{take_all, take_more, drop_more, take-append-drop, length-take, length-take-le, map-append}
+use Rattle.std.proofs.lemmas.Bool.{lt-ltb, le-ltb, cases_lt}
 use Rattle.outside.specs.Files.{File, lookup, Gives as Loads, Lacks}
 use Rattle.outside.specs.Faults.{NeverFalls, RoseOrFull}
 use Rattle.outside.specs.declared.fault.LoadFault.{LoadFault}
@@ -17,16 +17,16 @@ use Rattle.command_line.specs.declared.command.TableWord.{TableWord}
 use Rattle.eddyql.specs.Doing.{Went, Stopped, Refuses}
 use Rattle.eddyql.specs.Faults.{Sort, Plain, PastLimit, NoMemory, table_sort, table_status, by_sort}
 use Rattle.eddyql.specs.Files.{short_text, file_read, table_read, tables_read, catalogue_of, catalogue_read}
-use Rattle.eddyql.specs.Loaded.{load_status, AddsTable}
+use Rattle.eddyql.specs.Loaded.{load_status}
 use Rattle.eddyql.specs.Outcome.{ReachedTable}
-use Rattle.eddyql.specs.Seen.{Folder, folder_seen}
+use Rattle.eddyql.specs.Seen.{Folder}
 use Rattle.eddyql.specs.Steps.{◌>>=◌, ComesTo, or_refuse, or_fault}
 use Rattle.eddyql.specs.declared.status.Status.{Status}
 use Rattle.eddyql.specs.declared.status.Status.TheVariants as status
 use Rattle.eddyql.specs.declared.status.FileOf.{FileOf}
 use Rattle.eddyql.specs.declared.status.FileOf.TheVariants as file
 use Rattle.eddyql.specs.declared.status.LimitOf.TheVariants as limit
-use Rattle.eddyql.proofs.DoingLemmas.{stopped_pure, stopped_memory, stopped_behind, went_behind, refuses_memory}
+use Rattle.eddyql.proofs.DoingLemmas.{refuses_memory}
 
 -- ---- a file
 

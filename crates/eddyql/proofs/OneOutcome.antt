@@ -1,5 +1,5 @@
 -- Words over files have one outcome.
-use Rattle.std.proofs.Common.{◌≡◌, ℕ, zero, suc, ◌+◌, ◌%◌, ◌<◌, ◌≤◌, List, [], ◌∷◌, length, get_or, Option, Some, None, Result, Ok, Err, refl, sym, ◌∙◌, ap, subst, ◌⊎◌, inl, inr, arith}
+use Rattle.std.proofs.Common.{◌≡◌, ℕ, ◌+◌, ◌%◌, ◌<◌, List, [], ◌∷◌, length, get_or, Result, Ok, Err, refl, sym, ◌∙◌, ap, subst, ◌⊎◌, inl, inr}
 use Rattle.std.specs.Prelude.{All}
 use Rattle.std.proofs.lemmas.List.Elements.{All-head, All-tail, Contains-get_or}
 use Rattle.outside.specs.Files.{File}
@@ -28,7 +28,6 @@ use Rattle.eddyql.specs.Faults.{script_status, bind_status}
 use Rattle.eddyql.specs.Files.{file_read, catalogue_read}
 use Rattle.eddyql.specs.Outcome.{IsSpelled, IsScript, IsBlock, AreBlocks, IsBoundPlan, IsPlan, IsDemoPlan, IsTaskPlan, IsRequested, IsOutcome, OneOutcome, Predicates, task_text}
 use Rattle.eddyql.specs.Steps.{Behind, AndThen, ComesTo, or_refuse, or_fault}
-use Rattle.eddyql.specs.declared.plan.Plan.{Plan}
 use Rattle.eddyql.specs.declared.status.FileOf.TheVariants as file
 use Rattle.eddyql.specs.declared.status.Status.{Status}
 use Rattle.eddyql.specs.declared.status.Status.TheVariants as status

@@ -1,5 +1,5 @@
 -- What a script, its tables and its accesses come to, and the outcome of words.
-use Rattle.std.proofs.Common.{◌≡◌, ℕ, ◌%◌, List, [], Option, Some, None, Result, Ok, Err, refl, sym, ap, subst}
+use Rattle.std.proofs.Common.{◌≡◌, ℕ, ◌%◌, List, [], Some, None, Result, Ok, Err, refl, sym, ap, subst}
 use Rattle.outside.specs.Files.{File}
 use Rattle.command_line.specs.declared.command.Query.{Query}
 use Rattle.command_line.specs.declared.command.Task.{Task}

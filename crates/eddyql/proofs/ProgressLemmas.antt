@@ -11,7 +11,6 @@ use Rattle.sq_value.specs.declared.value.Value.{Value}
 use Rattle.sq_value.specs.declared.value.Truth.{Truth}
 use Rattle.sq_expr.specs.declared.block.Block.{Block}
 use Rattle.command_line.specs.declared.command.Task.{Task}
-use Rattle.bag_meaning.specs.Answer.{answer}
 use Rattle.result_sink.specs.Ready.{AddsPart}
 use Rattle.outside.specs.Faults.{NeverFalls, RoseOrFull}
 use Rattle.outside.specs.Told.{Adds, AddsFront}

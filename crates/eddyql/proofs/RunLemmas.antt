@@ -1,11 +1,10 @@
 -- How a run ends: by its plan, by its words, and on the notes.
-use Rattle.std.proofs.Common.{◌≡◌, ◌≢◌, ℕ, ◌≤◌, Bool, true, false, List, [], ◌∷◌, ◌++◌, map, Option, Some, None, Result, Ok, Err, refl, sym, ◌∙◌, ap, subst, ◌⊎◌, inl, inr, arith}
-use Rattle.std.specs.Prelude.{IsSome, IfOk, OnOk, OnErr}
+use Rattle.std.proofs.Common.{◌≡◌, ℕ, Bool, true, List, [], ◌++◌, Option, Some, None, Result, Ok, Err, refl, sym, ◌∙◌, ap, subst, ◌⊎◌, inl, inr, arith}
+use Rattle.std.specs.Prelude.{IsSome}
 use Rattle.outside.specs.Files.{File}
 use Rattle.outside.specs.Faults.{NeverFalls, RoseOrFull}
 use Rattle.outside.specs.Told.{Adds, AddsFront}
 use Rattle.outside.proofs.Laws.{Adds-nothing, Adds-twice, AddsFront-whole, AddsFront-nothing, RoseOrFull-earlier}
-use Rattle.result_sink.specs.declared.fault.WriteFault.{WriteFault}
 use Rattle.result_sink.specs.declared.fault.WriteFault.TheVariants as write
 use Rattle.command_line.specs.declared.command.TableWord.{TableWord}
 use Rattle.sq_value.specs.Relation.{Relation}
@@ -14,21 +13,19 @@ use Rattle.sq_value.specs.declared.value.Truth.{Truth}
 use Rattle.sq_expr.specs.declared.block.Block.{Block}
 use Rattle.eddyql.specs.Asked.{asked, names_of, names_asked, tables_in, is_tallied}
 use Rattle.eddyql.specs.Answering.{Answers, Tallied, LinesPut, EndsSo}
-use Rattle.eddyql.specs.Doing.{Went, Stopped, Refuses, Wrote}
+use Rattle.eddyql.specs.Doing.{Went, Stopped, Wrote}
 use Rattle.eddyql.specs.Ending.{Answered, AnsweredBy, Ended, EndedBy, LinedBy, NotedLines, Finished, stop_at, stop_of}
 use Rattle.eddyql.specs.Lines.{SomeLines, RunOf, Progress, MayFail}
 use Rattle.eddyql.specs.Faults.{IsPlaced}
 use Rattle.eddyql.specs.Note.{IsNoted, IsNotedBehind, NotesOf, line_of}
 use Rattle.eddyql.specs.Outcome.{IsOutcome, IsRequested, Predicates, ReachedFor, ReachedBy, task_text}
 use Rattle.eddyql.specs.Refusal.{MayRefuse, IsEarly, IsBetween}
-use Rattle.eddyql.specs.Run.{MayEnd, IsLate, IsBeforeOutput, status_of, text_due}
+use Rattle.eddyql.specs.Run.{IsLate, status_of, text_due}
 use Rattle.eddyql.specs.Seen.{Folder, Sink}
 use Rattle.eddyql.specs.declared.asking.Request.{Request}
 use Rattle.eddyql.specs.declared.plan.Plan.{Plan}
 use Rattle.eddyql.specs.declared.run.End.{End}
 use Rattle.eddyql.specs.declared.run.End.TheVariants as end
-use Rattle.eddyql.specs.declared.status.FileOf.{FileOf}
-use Rattle.eddyql.specs.declared.status.FileOf.TheVariants as file
 use Rattle.eddyql.specs.declared.status.Status.{Status}
 use Rattle.eddyql.specs.declared.status.Status.TheVariants as status
 use Rattle.eddyql.specs.declared.status.Stage.{Stage}

@@ -1,6 +1,6 @@
 -- What the stage of a status tells of it, and what may be said of a status by its stage.
-use Rattle.std.proofs.Common.{◌≡◌, ℕ, List, Option, Some, None, Result, Ok, Err, refl, sym, ◌∙◌, ap, subst, ◌⊎◌, inl, inr}
-use Rattle.std.specs.Prelude.{IfErr, MatchOption, ⊤}
+use Rattle.std.proofs.Common.{◌≡◌, ℕ, List, Option, Some, None, Result, Ok, Err, refl, ◌∙◌, ap, subst, ◌⊎◌, inl, inr}
+use Rattle.std.specs.Prelude.{MatchOption, ⊤}
 use Rattle.eddyql.specs.Stage.{stage_of, file_unread}
 use Rattle.eddyql.specs.Refusal.{RefusesAt, MayRefuse, IsBetween, IsFounded, IsEarly, HoldsAt, UnlessReadOrMemory}
 use Rattle.eddyql.specs.Run.{EndsAt, MayEnd, IsWriting, IsLate, IsSilent, IsBeforeOutput, status_of}

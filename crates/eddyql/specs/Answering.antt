@@ -5,7 +5,6 @@ use Rattle.sq_value.specs.Relation.{Relation}
 use Rattle.sq_value.specs.declared.value.Value.{Value}
 use Rattle.sq_value.specs.declared.value.Truth.{Truth}
 use Rattle.sq_expr.specs.declared.block.Block.{Block}
-use Rattle.bag_meaning.specs.declared.combo.Combo.{Combo}
 use Rattle.eddy_runs.specs.Complete.{IsBagOf}
 use Rattle.outside.specs.Faults.{NeverFalls, RoseOrFull}
 use Rattle.outside.specs.Told.{Adds}

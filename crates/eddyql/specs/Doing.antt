@@ -1,5 +1,5 @@
 -- Serves proofs: what a step over a folder or into a sink has done.
-use Rattle.std.specs.Prelude.{◌≡◌, ◌≢◌, ◌⊎◌, ℕ, List, Option, Some, None, IsSome, Result, Ok, Err, OnOk, OnErr}
+use Rattle.std.specs.Prelude.{◌≡◌, ℕ, List, Some, IsSome, Result, Err, OnOk, OnErr}
 use Rattle.outside.specs.Files.{File}
 use Rattle.outside.specs.Faults.{NeverFalls, RoseOrFull}
 use Rattle.outside.specs.Told.{Adds, AddsFront}
@@ -7,12 +7,7 @@ use Rattle.result_sink.specs.declared.fault.WriteFault.{WriteFault}
 use Rattle.result_sink.specs.declared.fault.WriteFault.TheVariants as write
 use Rattle.sq_parse.specs.Spelling.{Spelled}
 use Rattle.sq_parse.specs.declared.tree.Script.{Script}
-use Rattle.eddyql.specs.Outcome.{IsOutcome, Predicates, ReachedBy}
 use Rattle.eddyql.specs.Refusal.{MayRefuse, IsEarly, UnlessReadOrMemory}
-use Rattle.eddyql.specs.Run.{MayEnd, IsBeforeOutput, IsLate}
-use Rattle.eddyql.specs.Asked.{asked, names_asked}
-use Rattle.eddyql.specs.Note.{IsNoted, line_of}
-use Rattle.eddyql.specs.Faults.{IsPlaced}
 use Rattle.eddyql.specs.Seen.{Folder, Sink}
 use Rattle.eddyql.specs.declared.status.FileOf.{FileOf}
 use Rattle.eddyql.specs.declared.status.Status.{Status}

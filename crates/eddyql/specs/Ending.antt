@@ -1,14 +1,10 @@
 -- Serves proofs: how a run ended, before its note and behind it.
-use Rattle.std.specs.Prelude.{◌≡◌, ◌≢◌, ◌⊎◌, ℕ, Bool, true, false, List, ◌++◌, Option, Some, None, IsSome, Result, Ok, Err, OnOk, OnErr}
+use Rattle.std.specs.Prelude.{◌≡◌, ◌≢◌, ◌⊎◌, ℕ, Bool, true, false, List, Option, Some, None, IsSome, Result, Ok, Err}
 use Rattle.outside.specs.Files.{File}
 use Rattle.outside.specs.Faults.{NeverFalls, RoseOrFull}
 use Rattle.outside.specs.Told.{Adds, AddsFront}
-use Rattle.result_sink.specs.declared.fault.WriteFault.{WriteFault}
-use Rattle.result_sink.specs.declared.fault.WriteFault.TheVariants as write
-use Rattle.sq_parse.specs.Spelling.{Spelled}
-use Rattle.sq_parse.specs.declared.tree.Script.{Script}
 use Rattle.eddyql.specs.Outcome.{IsOutcome, Predicates, ReachedBy}
-use Rattle.eddyql.specs.Refusal.{MayRefuse, IsEarly, UnlessReadOrMemory}
+use Rattle.eddyql.specs.Refusal.{UnlessReadOrMemory}
 use Rattle.eddyql.specs.Run.{MayEnd, IsBeforeOutput, IsLate}
 use Rattle.eddyql.specs.Asked.{asked, names_asked, is_tallied}
 use Rattle.eddyql.specs.Lines.{AllLines, SomeLines, IsCutOff, MayFail}

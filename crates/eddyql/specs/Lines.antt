@@ -1,5 +1,5 @@
 -- The lines of counts of a run, and how far it came: which statements are finished, by what was written of their text.
-use Rattle.std.specs.Prelude.{◌≡◌, ◌≢◌, ◌⊎◌, ℕ, ◌+◌, true, List, [], ◌∷◌, ◌++◌, length, take, Option, Some, Result, Ok}
+use Rattle.std.specs.Prelude.{◌≡◌, ◌≢◌, ◌⊎◌, ℕ, ◌+◌, true, List, [], ◌∷◌, ◌++◌, length, take, Option, Some, Ok}
 use Rattle.outside.specs.Faults.{RoseOrFull}
 use Rattle.outside.specs.Files.{File}
 use Rattle.outside.specs.Told.{Adds}

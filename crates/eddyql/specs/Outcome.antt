@@ -5,7 +5,6 @@ use Rattle.sq_value.specs.Relation.{Relation}
 use Rattle.sq_value.specs.declared.value.Value.{Value}
 use Rattle.sq_value.specs.declared.value.Truth.{Truth}
 use Rattle.sq_value.specs.declared.predicate.Kinds.{Kinds}
-use Rattle.sq_expr.specs.declared.block.Access.{Access}
 use Rattle.sq_expr.specs.declared.block.Block.{Block}
 use Rattle.bag_meaning.specs.Answer.{answer, answer_text}
 use Rattle.outside.specs.Files.{File}

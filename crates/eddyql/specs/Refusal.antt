@@ -1,5 +1,5 @@
 -- Serves proofs, but for `UnlessReadOrMemory`: when a step may refuse, beside its definition.
-use Rattle.std.specs.Prelude.{◌≡◌, MatchOption, ⊤}
+use Rattle.std.specs.Prelude.{MatchOption, ⊤}
 use Rattle.eddyql.specs.Faults.{IsPlaced}
 use Rattle.eddyql.specs.Stage.{stage_of, file_unread}
 use Rattle.eddyql.specs.declared.status.FileOf.{FileOf}

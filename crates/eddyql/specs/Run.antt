@@ -1,5 +1,5 @@
 -- How a run may end, beside the outcome of its words over the files.
-use Rattle.std.specs.Prelude.{◌≡◌, ℕ, List, [], Result, Ok, Err, MatchOption, ⊤}
+use Rattle.std.specs.Prelude.{ℕ, List, [], Result, Ok, Err, MatchOption, ⊤}
 use Rattle.eddyql.specs.Stage.{stage_of, file_unread}
 use Rattle.eddyql.specs.declared.status.FileOf.{FileOf}
 use Rattle.eddyql.specs.declared.status.Stage.{Stage}

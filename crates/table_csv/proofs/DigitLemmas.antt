@@ -1,9 +1,9 @@
 -- Fields of digits alone, and the integers that they write.
-use Rattle.std.proofs.Common.{◌≡◌, ℕ, zero, suc, ◌+◌, ◌*◌, ◌^◌, ◌<◌, ◌≤◌, Bool, true, false, leb, List, [], ◌∷◌, length, drop, get_or, ℤ, pos, Option, Some, None, Ok, cond, refl, sym, ap, ◌∙◌, subst, arith, w64}
-use Rattle.std.specs.Prelude.{FitsSigned, IfSome, IsUtf8, slice_index, is_ok, not, ◌&&◌, ◌||◌, ◌==◌, nat_lt}
+use Rattle.std.proofs.Common.{◌≡◌, ℕ, zero, suc, ◌+◌, ◌*◌, ◌^◌, ◌<◌, ◌≤◌, Bool, true, false, leb, List, [], ◌∷◌, length, drop, get_or, ℤ, pos, Option, Some, None, Ok, refl, sym, ap, ◌∙◌, subst, arith, w64}
+use Rattle.std.specs.Prelude.{FitsSigned, IfSome, slice_index, not, ◌&&◌, ◌||◌, ◌==◌, nat_lt}
 use Rattle.std.specs.Char.{digit_value, is_ascii_digit}
 use Rattle.std.specs.Str.{IsAscii, is_utf8}
-use Rattle.std.specs.Str.Parse.{digits_value, digits_value_after, signed_digits_value, starts_with_minus, without_leading_sign}
+use Rattle.std.specs.Str.Parse.{digits_value, digits_value_after, starts_with_minus, without_leading_sign}
 use Rattle.std.proofs.lemmas.Bool.{leb-true, lt-ltb, ltb-true, ne_eqb}
 use Rattle.std.proofs.Math.Nat.{pow-le-pow_right}
 use Rattle.std.proofs.lemmas.Int.{to_z-of_z}
@@ -11,7 +11,7 @@ use Rattle.std.proofs.lemmas.Int.Digits.{digits_value-lt}
 use Rattle.std.proofs.lemmas.List.{drop_more}
 use mir.Val.{to_z, of_z}
 use Rattle.std.proofs.lemmas.Str.{IsUtf8-from_ascii, is_utf8-from_IsUtf8}
-use Rattle.sq_value.specs.Numeral.{all_digits, is_numeral, number_read}
+use Rattle.sq_value.specs.Numeral.{all_digits, number_read}
 use Rattle.sq_value.specs.declared.value.Value.TheVariants as value
 use Rattle.sq_value.specs.declared.value.ColType.TheVariants as kind
 use Rattle.sq_value.proofs.NumeralLemmas.{AllDigits-from_all_digits}

@@ -1,4 +1,4 @@
-use Rattle.std.proofs.Common.{sym, ◌∙◌, ap, Ok, subst, List}
+use Rattle.std.proofs.Common.{sym, ◌∙◌, Ok, subst, List}
 use Rattle.sq_expr.specs.declared.block.Access.{Access}
 use Rattle.sq_bind.specs.Given.{AreAccesses}
 use Rattle.eddyql.specs.Accesses.{accesses_read}

@@ -1,4 +1,4 @@
-use Rattle.std.proofs.Common.{◌≡◌, refl, sym, ◌∙◌, inl, inr, map}
+use Rattle.std.proofs.Common.{refl, sym, ◌∙◌, inr, map}
 use Rattle.std.specs.String.{string_bytes}
 use Rattle.eddyql.proofs.AskedLemmas.{asked_of, asked_none, request_within}
 use Rattle.eddyql.proofs.asking.asked.Goals as goal

@@ -1,4 +1,4 @@
-use Rattle.std.proofs.Common.{◌≡◌, List, ℕ, Err, Ok, sym, ap, ◌∙◌}
+use Rattle.std.proofs.Common.{Err, Ok, ◌∙◌}
 use Rattle.std.proofs.lemmas.Result.{IfOk-weaker, IfErr-weaker}
 use Rattle.eddyql.proofs.DoingLemmas.{refuses_weaker}
 use Rattle.eddyql.proofs.PlanLemmas.{demo_unscripted, demo_over}

@@ -1,5 +1,4 @@
-use Rattle.std.proofs.Common.{refl, arith, ap, Err}
-use Rattle.outside.specs.declared.fault.LoadFault.{LoadFault}
+use Rattle.std.proofs.Common.{arith, ap, Err}
 use Rattle.eddyql.proofs.FilesLemmas.{went_loaded, stopped_long, stopped_load}
 use Rattle.eddyql.proofs.loading.load.Goals as goal
 

@@ -1,7 +1,6 @@
-use Rattle.std.proofs.Common.{◌≡◌, sym, ap, ◌∙◌, subst, List, ℕ, Err, Ok}
+use Rattle.std.proofs.Common.{sym, ap, ◌∙◌, subst, List, ℕ, Err}
 use Rattle.std.proofs.lemmas.Result.{IfOk-weaker, IfErr-weaker}
 use Rattle.table_csv.specs.TableFile.{table_of_bytes}
-use Rattle.eddyql.specs.Doing.{Refuses}
 use Rattle.eddyql.specs.Faults.{table_status}
 use Rattle.eddyql.specs.Steps.{ComesTo, or_fault}
 use Rattle.eddyql.proofs.DoingLemmas.{through, went_on, stopped_pure, stopped_weaker}

@@ -1,6 +1,5 @@
-use Rattle.std.proofs.Common.{◌≡◌, List, [], ◌∷◌, ℕ, length, take, refl, sym, ap, ◌∙◌, subst, arith}
+use Rattle.std.proofs.Common.{List, [], ◌∷◌, length, refl, ap, subst, arith}
 use Rattle.std.proofs.lemmas.List.{take_all, length-append}
-use Rattle.sq_value.specs.Relation.{Relation}
 use Rattle.catalogue.specs.Named.{NamedTables}
 use Rattle.command_line.specs.declared.command.TableWord.{TableWord}
 use Rattle.eddyql.proofs.DoingLemmas.{through, went_on, went_behind, stopped_behind}

@@ -1,4 +1,4 @@
-use Rattle.std.proofs.Common.{◌≡◌, sym, ap, ◌∙◌, subst, List, ℕ, Err, Ok}
+use Rattle.std.proofs.Common.{ap, ◌∙◌, subst, List, ℕ, Err, Ok}
 use Rattle.catalogue.specs.Named.{with_table}
 use Rattle.eddyql.specs.Files.{table_read}
 use Rattle.eddyql.specs.Steps.{ComesTo}

@@ -1,4 +1,4 @@
-use Rattle.std.proofs.Common.{refl, ◌∙◌, append_assoc}
+use Rattle.std.proofs.Common.{refl, ◌∙◌}
 use Rattle.std.proofs.lemmas.Result.{IfOk-weaker}
 use Rattle.eddyql.specs.Note.{line_of}
 use Rattle.eddyql.proofs.noting.line_of.Goals as goal

@@ -1,17 +1,11 @@
-use Rattle.std.proofs.Common.{◌≡◌, ◌<◌, ◌+◌, List, [], ◌∷◌, ◌++◌, ℕ, Err, Ok, length, take, get_or, refl, sym, ap, ◌∙◌, subst, arith}
-use Rattle.std.specs.Prelude.{All}
+use Rattle.std.proofs.Common.{◌≡◌, ◌<◌, List, [], length, get_or, sym, ap, ◌∙◌, arith}
 use Rattle.std.proofs.lemmas.List.{take_all}
 use Rattle.std.proofs.lemmas.List.Elements.{All-nil, All-push, All-same}
-use Rattle.sq_bind.specs.Condition.{calling}
-use Rattle.sq_bind.specs.Given.{over}
-use Rattle.sq_bind.specs.Statement.{Scope}
 use Rattle.sq_expr.specs.Fits.{IsFit}
 use Rattle.sq_expr.specs.Reach.{IsReachable}
 use Rattle.sq_parse.specs.declared.tree.Statement.{Statement}
-use Rattle.eddyql.specs.Outcome.{AreBlocks}
 use Rattle.eddyql.proofs.DoingLemmas.{through, refuses_weaker}
 use Rattle.eddyql.proofs.BindingLemmas.{blocks_none, blocks_next, blocks_refused, blocks_of, blocks_are, parsed_at}
-use Rattle.eddyql.proofs.preparing.bind_all.Given as given
 use Rattle.eddyql.proofs.preparing.bind_all.Goals as goal
 
 pub loop-index-init : goal.loop-index-init

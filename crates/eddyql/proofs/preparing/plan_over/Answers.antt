@@ -1,4 +1,4 @@
-use Rattle.std.proofs.Common.{◌≡◌, List, ℕ, Err, Ok, length, refl, sym, ap, ◌∙◌, subst, arith}
+use Rattle.std.proofs.Common.{length, ap, arith}
 use Rattle.command_line.specs.declared.command.AccessWord.{AccessWord}
 use Rattle.eddyql.proofs.AccessLemmas.{few_accesses}
 use Rattle.eddyql.proofs.preparing.plan_over.Goals as goal

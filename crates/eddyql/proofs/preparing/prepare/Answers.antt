@@ -1,10 +1,10 @@
-use Rattle.std.proofs.Common.{◌≡◌, List, ℕ, Err, Ok, refl, sym, ap, ◌∙◌, subst}
+use Rattle.std.proofs.Common.{List, ℕ, Err, Ok, subst}
 use Rattle.std.proofs.lemmas.Result.{IfOk-weaker, IfErr-weaker}
 use Rattle.command_line.specs.declared.command.TableWord.{TableWord}
 use Rattle.eddyql.specs.Files.{catalogue_read}
-use Rattle.eddyql.specs.Outcome.{IsScript, Reached, ReachedTable}
+use Rattle.eddyql.specs.Outcome.{IsScript, ReachedTable}
 use Rattle.eddyql.specs.Steps.{ComesTo}
-use Rattle.eddyql.proofs.DoingLemmas.{through, went_on, went_behind, stopped_pure, stopped_weaker, stopped_behind}
+use Rattle.eddyql.proofs.DoingLemmas.{through, went_behind, stopped_pure, stopped_weaker, stopped_behind}
 use Rattle.eddyql.proofs.PlanLemmas.{plan_unscripted, plan_untabled, plan_over, reached_table, reached_script}
 use Rattle.eddyql.proofs.preparing.prepare.Goals as goal
 

@@ -1,4 +1,4 @@
-use Rattle.std.proofs.Common.{◌≡◌, List, ℕ, Err, Ok, length, sym, ap, ◌∙◌, subst, refl, arith}
+use Rattle.std.proofs.Common.{List, ℕ, Err, Ok, length, ap, subst, refl, arith}
 use Rattle.std.proofs.lemmas.Result.{IfOk-weaker, IfErr-weaker}
 use Rattle.eddyql.specs.Outcome.{IsSpelled}
 use Rattle.eddyql.proofs.DoingLemmas.{through, went_on, stopped_pure, stopped_weaker}

@@ -1,5 +1,4 @@
-use Rattle.std.proofs.Common.{◌≡◌, ℕ, List, Result, map, sym, ap, subst, ◌∙◌, ◌⊎◌, inl, inr}
-use Rattle.std.specs.String.{string_bytes}
+use Rattle.std.proofs.Common.{◌≡◌, ℕ, List, sym, ap, subst, ◌⊎◌, inl, inr}
 use Rattle.eddyql.specs.Ending.{Finished}
 use Rattle.eddyql.specs.Lines.{MayFail}
 use Rattle.eddyql.specs.Outcome.{IsOutcome, Predicates, predicates}

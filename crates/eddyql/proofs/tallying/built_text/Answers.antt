@@ -1,4 +1,4 @@
-use Rattle.std.proofs.Common.{◌≡◌, List, ℕ, ◌++◌, refl, sym, ap, ◌∙◌, append_assoc}
+use Rattle.std.proofs.Common.{refl, ◌∙◌, append_assoc}
 use Rattle.bag_meaning.proofs.RangeLemmas.{flat_map-last}
 use Rattle.eddyql.specs.Tally.{built_part}
 use Rattle.eddyql.proofs.tallying.built_text.Goals as goal

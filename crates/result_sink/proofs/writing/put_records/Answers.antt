@@ -1,4 +1,4 @@
-use Rattle.std.proofs.Common.{◌≡◌, Result, Err, []}
+use Rattle.std.proofs.Common.{◌≡◌, Err, []}
 use Rattle.std.proofs.lemmas.Result.{err_from_is_err_and}
 use Rattle.outside.proofs.Laws.{AddsFront-within}
 use Rattle.result_sink.specs.Ready.{record_text}

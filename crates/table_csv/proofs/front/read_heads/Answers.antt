@@ -1,4 +1,4 @@
-use Rattle.std.proofs.Common.{◌≢◌, sym, ap, ◌∙◌, arith}
+use Rattle.std.proofs.Common.{sym, ◌∙◌, arith}
 use Rattle.csv.specs.Records.{fields_of}
 use Rattle.table_csv.specs.Reading.{records_left}
 use Rattle.table_csv.proofs.FileLemmas.{empty_heading, no_heading, table_is, too_many}

@@ -1,6 +1,5 @@
 use Rattle.std.proofs.Common.{◌≡◌, List, Ok, length, fold, sym, ap, ◌∙◌, subst, rules}
 use Rattle.std.specs.Prelude.{replicate}
-use Rattle.csv.specs.Reading.{default_config, records}
 use Rattle.csv.specs.Records.{fields_of}
 use Rattle.sq_value.specs.Relation.{Relation}
 use Rattle.table_csv.specs.declared.types.Seen.{Seen}
