@@ -31,6 +31,50 @@ fn at_limits(rt: HostRuntime) -> Result<(), Fail> {
     Ok(())
 }
 
+// Twice as many lines 22 times, which is a heading and 4,194,303 records.
+fn lines_of(alloc: Global) -> Result<Vec<u8>, Fail> {
+    let mut lines = Vec::new(alloc);
+    lines.extend_from_slice(b"1\n")?;
+    for _ in 0..22 {
+        let mut twice = Vec::with_capacity(alloc, lines.len())?;
+        twice.extend_from_slice(&lines)?;
+        twice.extend_from_slice(&lines)?;
+        lines = twice;
+    }
+    Ok(lines)
+}
+
+// A table's file of one byte more than the most, and one of one record more.
+#[test]
+fn tables_at_limits(rt: HostRuntime) -> Result<(), Fail> {
+    let alloc = rt.alloc();
+    let long = vec![in alloc; b' '; 67_108_865]?;
+    let mut folder = folder_of(alloc, b"SELECT x FROM n")?;
+    folder.keep("long", &long)?;
+    let of_file = "Limit { of: File { file: Table(1) } }";
+    assert!(rt;
+        ended_in(
+            alloc,
+            "n long",
+            &mut folder,
+            of_file,
+            "limit: file of table long\n"
+        )?
+    );
+    folder.keep("many", &lines_of(alloc)?)?;
+    let of_rows = "Limit { of: Table { table: 1, fault: TooManyRows } }";
+    assert!(rt;
+        ended_in(
+            alloc,
+            "n many",
+            &mut folder,
+            of_rows,
+            "limit: rows of table many\n"
+        )?
+    );
+    Ok(())
+}
+
 // A folder that never has memory for a file.
 #[derive(Drop)]
 struct NoRoom;
