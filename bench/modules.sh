@@ -7,7 +7,7 @@ top=$(dirname "$here")
 work=$(mktemp -d)
 trap 'rm -rf "$work"' EXIT
 low='sq_value sq_parse sq_expr catalogue table_csv sq_bind bag_meaning tuple_span eddy_meaning stem_index routing_rules
-select_module stem_module'
+select_module stem_module case_kit'
 bench=$work/crates/modules_bench
 mkdir -p "$bench/src" "$bench/specs" "$bench/proofs"
 for crate in $low; do
@@ -18,9 +18,9 @@ echo "modules_bench: $(echo $low) sqlite_items csv indexmap arrayvec anyhow" >> 
 cp "$top/HANDLES" "$work/"
 cases=$top/crates/module_cases
 renamed() { sed -e 's/module_cases/modules_bench/g' "$1"; }
-renamed "$cases/src/given.rt" | sed -e 's/use std::test::Fail;/use anyhow::Error as Fail;/' > "$bench/src/given.rt"
+renamed "$cases/src/given.rt" > "$bench/src/given.rt"
 renamed "$cases/src/tuples.rt" | sed -e 's/^fn is_legal/pub fn is_legal/; s/^fn built/pub fn built/' > "$bench/src/tuples.rt"
-(cd "$cases" && find specs proofs/Lib.antt proofs/GivenLemmas.antt proofs/TupleLemmas.antt proofs/given proofs/tuples -type f) \
+(cd "$cases" && find specs proofs/Lib.antt proofs/TupleLemmas.antt proofs/tuples -type f) \
     | while read -r file; do mkdir -p "$bench/$(dirname "$file")"; renamed "$cases/$file" > "$bench/$file"; done
 cp "$here/modules.txt" "$bench/src/main.rt"
 (cd "$here/modules.proofs" && find . -name '*.txt') | while read -r file; do
