@@ -6,7 +6,7 @@ ghost use Rattle.sq_expr.specs.Reach.{IsReachable};
 use crate::drawn::{statement, tables, ways};
 use crate::events::keys_by_events;
 use crate::policies::{POLICIES, keys_by_policy};
-use crate::sample::{block_of, catalogue_of};
+use case_kit::{block_of_case, catalogue_of_lines};
 use sq_expr::Block;
 use sq_value::{NoPredicates, Predicates, Tables};
 use std::alloc::Global;
@@ -58,13 +58,14 @@ fn try_block(alloc: Global, state: &mut u64, word: &str, tried: &mut Tried) -> R
     let ways = ways(alloc, state)?;
     let text = statement(alloc, state)?;
     let (ways, text) = (ways.as_str(), text.as_str());
-    let catalogue = catalogue_of(alloc, lines.as_str())?;
-    let keys = match block_of(alloc, &catalogue, ways, text, &NoPredicates)? {
+    let catalogue = catalogue_of_lines(alloc, lines.as_str())?;
+    let keys = match block_of_case(alloc, &catalogue, ways, text, &NoPredicates)? {
         Some(block) => {
             let tables = catalogue.tables();
             keys_of(alloc, &block, tables, &NoPredicates, state, word)?
         }
-        None if block_of(alloc, &catalogue, SCANS, text, &NoPredicates)?.is_some() => return Ok(()),
+        None if block_of_case(alloc, &catalogue, SCANS, text, &NoPredicates)?.is_some() =>
+            return Ok(()),
         None => None,
     };
     match keys {

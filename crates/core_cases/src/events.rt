@@ -49,8 +49,8 @@ fn key_event(state: &mut u64, asked: usize) -> Event {
     }
 }
 
-// An event, legal or not, where so many tuples are pending and so many keys asked.
-fn event(state: &mut u64, pending: usize, asked: usize) -> Event {
+/// An event, legal or not, where so many tuples are pending and so many keys asked.
+pub fn event(state: &mut u64, pending: usize, asked: usize) -> Event {
     match next(state, 16) {
         0 => Event::Claim {
             alias: next(state, 3) as u8,

@@ -18,4 +18,8 @@ mod policies;
 #[cfg(test)]
 mod sample;
 #[cfg(test)]
+mod shown;
+#[cfg(test)]
 mod single;
+#[cfg(test)]
+mod wanting;

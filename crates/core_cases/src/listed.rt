@@ -3,7 +3,8 @@
 ghost use Rattle.sq_expr.specs.Fits.{IsFit};
 ghost use Rattle.sq_expr.specs.Reach.{IsReachable};
 
-use crate::sample::{block_of, catalogue_of, cut, digits_of};
+use crate::sample::{cut, digits_of};
+use case_kit::{block_of_case, catalogue_of_lines};
 use eddy_core::Core;
 use eddy_runs::Event;
 use sq_expr::Block;
@@ -161,8 +162,8 @@ fn said<F: Predicates>(
 // A case that isn't right, with what is said of it, or nothing.
 fn wrong_case(alloc: Global, line: &str) -> Result<String, Fail> {
     let case = cut(line);
-    let catalogue = catalogue_of(alloc, TABLES)?;
-    let told = match block_of(alloc, &catalogue, case.ways, case.text, &NoPredicates)? {
+    let catalogue = catalogue_of_lines(alloc, TABLES)?;
+    let told = match block_of_case(alloc, &catalogue, case.ways, case.text, &NoPredicates)? {
         Some(block) => said(alloc, &block, catalogue.tables(), &NoPredicates, case.how)?,
         None => String::from_str(alloc, "no block")?,
     };

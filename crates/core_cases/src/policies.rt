@@ -4,7 +4,9 @@ ghost use Rattle.sq_expr.specs.Fits.{IsFit};
 ghost use Rattle.sq_expr.specs.Reach.{IsReachable};
 
 use crate::compared::is_bag;
-use crate::sample::{Case, block_of, catalogue_of, cut, digits_of};
+use crate::sample::{Case, cut, digits_of};
+use crate::shown::log_text;
+use case_kit::{block_of_case, catalogue_of_lines};
 use eddy_core::run_one;
 use route_policy::{AnyPolicy, Lottery, Policy, Pressure, RouteScript};
 use sq_expr::Block;
@@ -41,10 +43,17 @@ const BOUNDS: &str = "\
 6 3 3 | s 1 s s | SELECT name, amt FROM cust c, ord o WHERE c.id = o.cid | 4
 6 2 3 | 0 s s s | SELECT name, amt FROM ord o, cust c WHERE o.cid = c.id | 4";
 
-/// What a run by look-ups finds: the rows with their stamps; behind `log`, the built rows as alias:row; behind `keys`,
-/// the looked keys as alias:key, in millionths.
+/// What a run by look-ups finds: the rows with their stamps; the build log; and the looked keys as alias:key, in
+/// millionths.
 const LOOKED: &str = "\
-0,0@1 0,1@2 1,2@4 log 0:0 1:0 1:1 0:1 1:2 0:2 keys 1:1000000 1:2000000 1:3000000";
+found 0,0@1 0,1@2 1,2@4
+alias 0 row 0 stamp 0
+alias 1 row 0 stamp 1
+alias 1 row 1 stamp 2
+alias 0 row 1 stamp 3
+alias 1 row 2 stamp 4
+alias 0 row 2 stamp 5
+keys 1:1000000 1:2000000 1:3000000";
 
 /// The policies, as words.
 pub const POLICIES: &str = "lottery pressure v0 a0,a1 b,a1,v0";
@@ -118,8 +127,8 @@ pub fn keys_by_policy<F: Predicates>(
 
 // What is counted of a case's run under a policy.
 fn counts_in(alloc: Global, case: &Case<'_>, word: &str) -> Result<Option<Counts>, Fail> {
-    let catalogue = catalogue_of(alloc, TABLES)?;
-    match block_of(alloc, &catalogue, case.ways, case.text, &NoPredicates)? {
+    let catalogue = catalogue_of_lines(alloc, TABLES)?;
+    match block_of_case(alloc, &catalogue, case.ways, case.text, &NoPredicates)? {
         Some(block) => counts_of(alloc, &block, catalogue.tables(), &NoPredicates, word),
         None => Ok(None),
     }
@@ -170,17 +179,13 @@ fn answer_of<F: Predicates>(
 {
     let mut policy = policy_of("v0");
     let a = run_one(alloc, block, tables, &mut policy, functions)?;
-    let mut told = String::new(alloc);
+    let mut told = String::from_str(alloc, "found")?;
     for combo in a.combos.as_slice() {
         let (first, second, stamp) = (combo.rows[0], combo.rows[1], combo.stamp);
-        told.push_str(format!(in alloc; "{first},{second}@{stamp} ")?.as_str())?;
+        told.push_str(format!(in alloc; " {first},{second}@{stamp}")?.as_str())?;
     }
-    told.push_str("log")?;
-    for entry in a.built.as_slice() {
-        let (alias, row) = (entry.alias, entry.row);
-        told.push_str(format!(in alloc; " {alias}:{row}")?.as_str())?;
-    }
-    told.push_str(" keys")?;
+    let log = log_text(alloc, a.built.as_slice())?;
+    told.push_str(format!(in alloc; "\n{log}\nkeys")?.as_str())?;
     for key in a.looked.as_slice() {
         let alias = key.alias;
         let digits = digits_of(&key.key);
@@ -214,9 +219,9 @@ fn cases_are_within_bounds_under_each_policy(rt: HostRuntime) -> Result<(), Fail
 #[test]
 fn a_run_by_look_ups_answers_as_worked_out(rt: HostRuntime) -> Result<(), Fail> {
     let alloc = rt.alloc();
-    let catalogue = catalogue_of(alloc, TABLES)?;
+    let catalogue = catalogue_of_lines(alloc, TABLES)?;
     let text = "SELECT name, amt FROM cust c, ord o WHERE c.id = o.cid";
-    if let Some(block) = block_of(alloc, &catalogue, "s 1 s s", text, &NoPredicates)? {
+    if let Some(block) = block_of_case(alloc, &catalogue, "s 1 s s", text, &NoPredicates)? {
         let told = answer_of(alloc, &block, catalogue.tables(), &NoPredicates)?;
         assert_eq!(rt; told.as_str(), LOOKED);
         return Ok(());

@@ -3,8 +3,8 @@
 ghost use Rattle.sq_expr.specs.Fits.{IsFit};
 ghost use Rattle.sq_expr.specs.Reach.{IsReachable};
 
-use crate::sample::{block_of, catalogue_of};
 use bag_meaning::Built;
+use case_kit::{block_of_case, catalogue_of_lines};
 use eddy_core::{replay, run_one};
 use route_policy::{PolicyCall, Recorder, RouteScript};
 use sq_expr::Block;
@@ -75,8 +75,8 @@ fn kept<F: Predicates>(
 #[test]
 fn a_list_replays_as_worked_out(rt: HostRuntime) -> Result<(), Fail> {
     let alloc = rt.alloc();
-    let catalogue = catalogue_of(alloc, TABLES)?;
-    let below = block_of(alloc, &catalogue, "s s s", BELOW, &NoPredicates)?;
+    let catalogue = catalogue_of_lines(alloc, TABLES)?;
+    let below = block_of_case(alloc, &catalogue, "s s s", BELOW, &NoPredicates)?;
     if let Some(block) = below {
         let told = replays(alloc, &block, catalogue.tables(), &NoPredicates)?;
         assert_eq!(rt; told.as_str(), "0 1 at 1");
@@ -87,8 +87,8 @@ fn a_list_replays_as_worked_out(rt: HostRuntime) -> Result<(), Fail> {
 #[test]
 fn a_recorder_keeps_each_choice_and_return(rt: HostRuntime) -> Result<(), Fail> {
     let alloc = rt.alloc();
-    let catalogue = catalogue_of(alloc, TABLES)?;
-    let orders = block_of(alloc, &catalogue, "s s s", ORDERS, &NoPredicates)?;
+    let catalogue = catalogue_of_lines(alloc, TABLES)?;
+    let orders = block_of_case(alloc, &catalogue, "s s s", ORDERS, &NoPredicates)?;
     if let Some(block) = orders {
         let count = kept(alloc, &block, catalogue.tables(), &NoPredicates, 28)?;
         assert_eq!(rt; count, 28);
