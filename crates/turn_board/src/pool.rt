@@ -1,7 +1,7 @@
 //! A pool of items that the seats share: the list of all its puts and takes.
 ghost use Rattle.std.specs.Prelude.{◌≡◌, ◌+◌, ◌-◌, ◌<◌, ◌≤◌, ◌++◌, ◌∷◌, ℕ, [], length, max, All, IfOk, IfErr, true, false};
 ghost use Rattle.std.specs.List.Sorted.{IsPermutation};
-ghost use Rattle.turn_board.specs.Pools.{above, left_in, put_items, puts_in, taken_items, takes_in, top_of};
+ghost use Rattle.turn_board.specs.Pools.{above, left_in, put_items, puts_in, taken_items, takes_in, top_of, TakeTheLast};
 
 use std::alloc::{AllocError, Global};
 use std::marker::Model;
@@ -156,6 +156,7 @@ impl<T: Stamped + Copy> Pool<T> {
         ensures settled { IsPermutation (put_items self.now.moves)
             (taken_items self.now.moves ++ left_in self.now.moves) }
         ensures plans { All (λ v. T.same_plan v.item self.now.sample) self.now.moves }
+        ensures in_order { TakeTheLast [] self.now.moves }
     {
         self.moves.as_slice()
     }

@@ -1,9 +1,9 @@
-use Rattle.std.proofs.Common.{rules, arith, ◌≡◌, ◌++◌, [], ◌∷◌, true, cond, not, sym, ap, ◌∙◌, subst, ℕ, List}
+use Rattle.std.proofs.Common.{rules, arith, ◌≡◌, ◌++◌, [], ◌∷◌, true, true≢false, cond, not, sym, ap, ◌∙◌, subst, ℕ, List}
 use Rattle.turn_board.specs.declared.pool.Move.{Move}
 use Rattle.turn_board.specs.Sums.{Each}
-use Rattle.turn_board.specs.Pools.{PoolState, left_in, top_of, puts_in, takes_in, put_items, taken_items}
+use Rattle.turn_board.specs.Pools.{PoolState, left_in, top_of, puts_in, takes_in, put_items, taken_items, TakeTheLast}
 use Rattle.turn_board.proofs.Rosters.{each_append, sum_snoc}
-use Rattle.turn_board.proofs.PoolLaws.{left_snoc, top_snoc, put_snoc, taken_snoc, settled_put, settled_taken}
+use Rattle.turn_board.proofs.PoolLaws.{left_snoc, top_snoc, put_snoc, taken_snoc, settled_put, last_snoc}
 use Rattle.std.specs.List.Sorted.{IsPermutation}
 use Rattle.turn_board.proofs.pool.Pool.put.Goals as goal
 
@@ -22,4 +22,5 @@ invariant_of-self g c = let v = c.self.invariant in let old : List (Move g.row.T
       top = (let a = v.top in let d = c.greater.ensures in let e = ap (λ (l : List (Move g.row.T.Denot)). top_of g.T.Stamped.stamp l) moves in let f = top_snoc g.T.Stamped.stamp old move in omega arith);
       settled = subst (λ (x' : List g.row.T.Denot × List g.row.T.Denot × List g.row.T.Denot). IsPermutation x'.0 (x'.1 ++ x'.2)) (λ i. (sym (ap (λ (l : List (Move g.row.T.Denot)). put_items l) moves ∙ put_snoc old move) i, sym (ap (λ (l : List (Move g.row.T.Denot)). taken_items l) moves ∙ taken_snoc old move) i, sym (ap (λ (l : List (Move g.row.T.Denot)). left_in l) moves ∙ left_snoc [] old move) i))
           (settled_put (put_items old) (taken_items old) (left_in old) x v.settled);
+      in_order = subst (TakeTheLast []) (sym moves) (last_snoc [] old move v.in_order (λ e. absurd (true≢false e)));
     }

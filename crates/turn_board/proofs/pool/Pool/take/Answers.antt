@@ -1,9 +1,9 @@
 use Rattle.std.proofs.Common.{rules, arith, ◌≡◌, ◌-◌, ◌++◌, [], ◌∷◌, false, cond, not, sym, ap, ◌∙◌, subst, ℕ, List, length, take}
 use Rattle.turn_board.specs.declared.pool.Move.{Move}
 use Rattle.turn_board.specs.Sums.{Each}
-use Rattle.turn_board.specs.Pools.{PoolState, left_in, top_of, puts_in, takes_in, put_items, taken_items}
+use Rattle.turn_board.specs.Pools.{PoolState, left_in, top_of, puts_in, takes_in, put_items, taken_items, TakeTheLast}
 use Rattle.turn_board.proofs.Rosters.{each_append, sum_snoc}
-use Rattle.turn_board.proofs.PoolLaws.{left_snoc, left_each, take_front, top_snoc, put_snoc, taken_snoc, settled_put, settled_taken}
+use Rattle.turn_board.proofs.PoolLaws.{left_snoc, left_each, take_front, top_snoc, put_snoc, taken_snoc, settled_put, settled_taken, last_snoc, is_last}
 use Rattle.std.specs.List.Sorted.{IsPermutation}
 use Rattle.turn_board.proofs.Dealing.{each_back}
 use Rattle.turn_board.proofs.pool.Pool.take.Goals as goal
@@ -27,6 +27,7 @@ invariant_of-self-2 g c = let v = c.self.invariant in let old : List (Move g.row
         sym (ap (λ (l : List (Move g.row.T.Denot)). left_in l) moves ∙ (left_snoc [] old move ∙ (ap (λ (l : List g.row.T.Denot). take (length l - 1) l) last ∙ take_front rest x))) i,
       ))
           (settled_taken (put_items old) (taken_items old) rest x (subst (λ (l : List g.row.T.Denot). IsPermutation (put_items old) (taken_items old ++ l)) last v.settled));
+      in_order = subst (TakeTheLast []) (sym moves) (last_snoc [] old move v.in_order (λ e. is_last (left_in old) rest x last));
     }
 
 pub returns-clause-last : goal.returns-clause-last
