@@ -12,12 +12,12 @@ use Rattle.sq_bind.specs.Fault.{IsFirst, IsNotLater, is_before, place_of, fault_
 use Rattle.sq_expr.specs.Fits.{IsFit}
 use Rattle.sq_expr.specs.declared.block.AliasUse.{AliasUse}
 use Rattle.sq_bind.specs.Visible.{Alias}
-use Rattle.sq_bind.specs.Statement.{Scope, from_faults, rest_faults, block_of, aliases_in, output_of, placed_in, conjunct_of, key_of, use_of}
+use Rattle.sq_bind.specs.Statement.{Scope, from_faults, rest_faults, block_of, aliases_in, output_of, placed_in, placed_conjunct, key_of, use_of}
 use Rattle.sq_bind.specs.Found.{IsFound, used_at, block_with}
 use Rattle.sq_bind.specs.Given.{AreAccesses}
 use Rattle.sq_bind.specs.Reached.{first_unreached}
 use Rattle.sq_bind.specs.Sound.{IsSound}
-use Rattle.sq_bind.specs.Answer.{IsReached, IsFirstUnreached, IsBindFault, IsBound}
+use Rattle.sq_bind.specs.Answer.{IsReachedAlias, IsFirstUnreached, IsBindFault, IsBound}
 use Rattle.sq_bind.specs.Told.{IsAnswer}
 use Rattle.sq_bind.specs.declared.fault.BindFault.{BindFault}
 use Rattle.sq_bind.specs.declared.fault.BindFault.TheVariants as fault
@@ -180,7 +180,7 @@ module _ (scope : Scope) (s : Statement) where
       let v = b.1 in
       u.1 ∙ ap fault.Unreachable (unreached_twice (block_of scope s) u.0 v.0 u.2 v.2) ∙ sym v.1
 
-  reached_each : (block : Block) → IsReachable block → (a : ℕ) → a < length block.aliases → IsReached block a
+  reached_each : (block : Block) → IsReachable block → (a : ℕ) → a < length block.aliases → IsReachedAlias block a
   reached_each block h a low = record {
     scanned = h.first;
     u = h.u;
@@ -268,7 +268,7 @@ module _ (scope : Scope) (s : Statement) where
       with_uses : List AliasUse → Block
       with_uses uses = record {
         aliases = uses;
-        conjuncts = map conjunct_of (placed_in scope.calls (aliases_in scope s) s);
+        conjuncts = map placed_conjunct (placed_in scope.calls (aliases_in scope s) s);
         output = output_of (aliases_in scope s) s.items;
         order = map (key_of (aliases_in scope s) (output_of (aliases_in scope s) s.items)) s.order;
       }

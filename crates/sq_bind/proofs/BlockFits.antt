@@ -30,7 +30,7 @@ use Rattle.sq_expr.proofs.WeakerLemmas.{every-also}
 use Rattle.sq_bind.specs.Visible.{Alias, called, meant}
 use Rattle.sq_bind.specs.Operand.{column_faults}
 use Rattle.sq_bind.specs.Condition.{extra_faults, conjunct_faults}
-use Rattle.sq_bind.specs.Statement.{Scope, from_faults, source_faults, sources_faults, table_faults, alias_faults, thirteenth_faults, table_number, columns_at, aliases_from, aliases_in, outputs_from, columns_of, named_column, called_columns, called_faults, item_columns, item_faults, output_of, output_faults, is_same_column, column_of, column_meant, sorted_column, candidates, order_column, order_faults, order_key, Part, part_seeing, joins_from, parts_of, part_conjuncts, part_faults, placed_in, key_faults, faults_among, rest_faults, conjunct_of, scanned, used, use_of, key_of, block_of}
+use Rattle.sq_bind.specs.Statement.{Scope, from_faults, source_faults, sources_faults, table_faults, alias_faults, thirteenth_faults, table_number, columns_at, aliases_from, aliases_in, outputs_from, columns_of, named_column, called_columns, called_faults, item_columns, item_faults, output_of, output_faults, is_same_column, output_column, column_meant, sorted_column, candidates, order_column, order_faults, order_key, Part, part_seeing, joins_from, parts_of, part_conjuncts, part_faults, placed_in, key_faults, faults_among, rest_faults, placed_conjunct, scanned, used, use_of, key_of, block_of}
 use Rattle.sq_bind.specs.Given.{AreAccesses}
 use Rattle.sq_bind.specs.Sound.{IsSound, IsSoundTree, IsSoundList}
 use Rattle.sq_bind.specs.declared.conjunct.Placed.{Placed}
@@ -190,8 +190,8 @@ module _ (scope : Scope) (uses : List ℕ) (aliases : List Alias) (held : Each (
       by (Err f) is e = absurd cc
   sorted_there c (x ∷ more) h d e = by (list_all (is_same_column x) more) e
     where
-      by : (b : Bool) → (if b then Ok (column_of x) else Err (AmbiguousColumn (column_place c))) ≡ Ok d → IsThere d
-      by true e = let same : column_of x ≡ d = cc in subst IsThere same h.0
+      by : (b : Bool) → (if b then Ok (output_column x) else Err (AmbiguousColumn (column_place c))) ≡ Ok d → IsThere d
+      by true e = let same : output_column x ≡ d = cc in subst IsThere same h.0
       by false e = absurd cc
 
   candidates_there : (output : List OutCol) (name : Option Name) (column : List ℕ) → Each OutThere output → Each OutThere (candidates output name column)
@@ -246,7 +246,7 @@ module _ (scope : Scope) (uses : List ℕ) (aliases : List Alias) (held : Each (
       (each_both Seen (λ p. part_faults scope.calls p ≡ []) (λ p. Each Fit (part_conjuncts scope.calls p)) (parts_of aliases s) part_fits
       (parts_seen s sound) (each_empty (part_faults scope.calls) (parts_of aliases s) e))
 
-  conjunct_fits : (p : Placed) → Fit p → FitsConjunct scope.calls.kinds scope.tables uses (conjunct_of p)
+  conjunct_fits : (p : Placed) → Fit p → FitsConjunct scope.calls.kinds scope.tables uses (placed_conjunct p)
   conjunct_fits p h = record {
     cond = every-also scope.calls.kinds has (λ c kind. kind_in scope.tables uses c ≡ Some kind) p.cond h (λ c k held fits. fits.1);
     span = span_holds (aliases_of p.cond) (λ a in'. (let o = every-occurs scope.calls.kinds has p.cond h a in' in subst (λ (n : ℕ). n < 12) o.of o.fits.0));
@@ -385,11 +385,11 @@ module _ (scope : Scope) (s : Statement) where
             (each_both (λ (source : Source). IsSome (scope.table source.table.text))
             (λ (source : Source). IfSome (scope.table source.table.text) (λ (table : ℕ). table < length scope.tables))
             (λ (source : Source). FitsAlias scope.tables (use_of scope source)) s.sources (use_fits scope accesses) first.found within));
-        few_conjuncts = (let l = length-map placed conjunct_of in let h = few_placed placed counted.0 in omega (arith, l, h));
-        conjuncts = subst (λ (ts : List ℕ). All (FitsConjunct scope.calls.kinds scope.tables ts) (map conjunct_of placed)) (sym same)
-            (All-from_recursion (FitsConjunct scope.calls.kinds scope.tables uses) (map conjunct_of placed)
-            (each_map (FitsConjunct scope.calls.kinds scope.tables uses) conjunct_of placed
-            (each_also (Fit scope uses aliases held) (λ p. FitsConjunct scope.calls.kinds scope.tables uses (conjunct_of p)) placed
+        few_conjuncts = (let l = length-map placed placed_conjunct in let h = few_placed placed counted.0 in omega (arith, l, h));
+        conjuncts = subst (λ (ts : List ℕ). All (FitsConjunct scope.calls.kinds scope.tables ts) (map placed_conjunct placed)) (sym same)
+            (All-from_recursion (FitsConjunct scope.calls.kinds scope.tables uses) (map placed_conjunct placed)
+            (each_map (FitsConjunct scope.calls.kinds scope.tables uses) placed_conjunct placed
+            (each_also (Fit scope uses aliases held) (λ p. FitsConjunct scope.calls.kinds scope.tables uses (placed_conjunct p)) placed
             (conjunct_fits scope uses aliases held) (placed_fit scope uses aliases held s sound conditions.0))));
         some_output = output_some aliases some any s.items sound.items shown.0;
         output = subst (λ (ts : List ℕ). All (λ (o : OutCol). IsSome (kind_in scope.tables ts (record { alias = o.alias; column = o.column }))) output) (sym same)

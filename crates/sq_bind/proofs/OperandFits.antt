@@ -17,7 +17,7 @@ use Rattle.sq_expr.specs.Fits.{Class, Numbers, Texts, class_of, HasClass, FitsTe
 use Rattle.sq_expr.specs.declared.cond.ColumnOf.{ColumnOf}
 use Rattle.sq_expr.specs.declared.cond.Term.{Term}
 use Rattle.sq_bind.specs.Visible.{Alias, meant}
-use Rattle.sq_bind.specs.Operand.{alone, is_text, column_faults, number_faults, term_faults, ninth_faults, sum_faults, operand_faults, column_class, sum_class, unless_faulty, form_class, operand_class, is_class, are_mixed, compared_faults, found, minus, factor_of, term_of, sum_side, side_of}
+use Rattle.sq_bind.specs.Operand.{alone, is_text, column_faults, number_faults, term_faults, ninth_faults, sum_faults, operand_faults, column_class, sum_class, unless_faulty, form_class, operand_class, is_class, are_mixed, compared_faults, found_column, minus, factor_of, term_of, sum_side, side_of}
 use Rattle.sq_bind.specs.Sound.{IsUpTo, IsSmall, IsSoundTerm, IsSoundOperand}
 use Rattle.sq_bind.specs.declared.visible.Resolved.{Resolved}
 use Rattle.sq_bind.specs.declared.fault.BindFault.{BindFault}
@@ -75,7 +75,7 @@ module _ (has : ColumnOf → ColType → Type 0) (aliases : List Alias) (held : 
   number_class kind.Text e = absurd (false≢true (sym e))
   number_class (kind.Decimal s) e = refl
 
-  number_means : (at : ℕ) (c : ColRef) → number_faults at (meant aliases c) ≡ [] → HasClass has Numbers (found (meant aliases c))
+  number_means : (at : ℕ) (c : ColRef) → number_faults at (meant aliases c) ≡ [] → HasClass has Numbers (found_column (meant aliases c))
   number_means at c e = by (meant aliases c) refl e
     where
       in_class : (m : Resolved) → meant aliases c ≡ Ok m → (b : Bool) → is_text m.kind ≡ b → (if b then TypeMismatch at ∷ [] else []) ≡ []
@@ -83,7 +83,7 @@ module _ (has : ColumnOf → ColType → Type 0) (aliases : List Alias) (held : 
       in_class m is true f e = absurd cc
       in_class m is false f e = (m.kind, (meant_has has aliases held c m is, number_class m.kind f))
 
-      by : (r : Result Resolved BindFault) → meant aliases c ≡ r → number_faults at r ≡ [] → HasClass has Numbers (found r)
+      by : (r : Result Resolved BindFault) → meant aliases c ≡ r → number_faults at r ≡ [] → HasClass has Numbers (found_column r)
       by (Ok m) is e = in_class m is (is_text m.kind) refl e
       by (Err f) is e = absurd cc
 
@@ -91,7 +91,7 @@ module _ (has : ColumnOf → ColType → Type 0) (aliases : List Alias) (held : 
   term_fits t sound e = by t.column sound e
     where
       by : (c : Option ColRef) → IfSome t.number (IsSmall c) → term_faults aliases c ≡ []
-          → FitsTerm has (factor_of t) (option_map (λ c. found (meant aliases c)) c)
+          → FitsTerm has (factor_of t) (option_map (λ c. found_column (meant aliases c)) c)
       by None sound e = factor_small 9223372036854775807 t (omega arith) sound
       by (Some c) sound e = (factor_small 2147483647 t (omega arith) sound, number_means (column_place c) c e)
 
@@ -119,7 +119,7 @@ module _ (has : ColumnOf → ColType → Type 0) (aliases : List Alias) (held : 
   sum_fits at ts (Some c) sound e class may =
       let m = means c e in
       let is : class ≡ class_of m.m.kind = subst (λ r. MayBe class (column_class r)) m.is may in
-      subst (λ r. HasClass has class (found r)) (sym m.is) (m.m.kind, (m.fits, sym is))
+      subst (λ r. HasClass has class (found_column r)) (sym m.is) (m.m.kind, (m.fits, sym is))
   sum_fits at ts None sound e class may =
       let both = both_empty (flat_map (λ (t : RawTerm). term_faults aliases t.column) ts) (ninth_faults (slice_get ts 8)) e in (
         may,

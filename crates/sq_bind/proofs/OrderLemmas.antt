@@ -14,7 +14,7 @@ use Rattle.sq_parse.specs.declared.tree.ColRef.{ColRef}
 use Rattle.sq_expr.specs.declared.block.OutCol.{OutCol}
 use Rattle.sq_expr.specs.declared.cond.ColumnOf.{ColumnOf}
 use Rattle.sq_bind.specs.Visible.{Alias}
-use Rattle.sq_bind.specs.Statement.{candidates, sorted_column, column_of}
+use Rattle.sq_bind.specs.Statement.{candidates, sorted_column, output_column}
 use Rattle.sq_bind.specs.declared.output.Meant.{Meant}
 use Rattle.sq_bind.specs.declared.fault.BindFault.{BindFault}
 use Rattle.sq_bind.specs.Ordered.{is_at, meant_with, meant_after, meant_among, told, HoldsOutput}
@@ -70,7 +70,7 @@ meant_sorted aliases c output known e =
     by : (xs : List OutCol)
         → by_meaning aliases c (fold (λ k d. Some (meant_with k d)) None xs) ≡ sorted_column aliases c xs
     by [] = refl
-    by (x ∷ xs) = ap (by_meaning aliases c) (all_one (column_of x) true xs)
+    by (x ∷ xs) = ap (by_meaning aliases c) (all_one (output_column x) true xs)
 
 -- ---- the entries, with one more column
 

@@ -25,7 +25,7 @@ use Rattle.sq_expr.specs.declared.cond.Cond.{Cond, every-Cond}
 use Rattle.sq_expr.specs.declared.cond.Cond.TheVariants as cond
 use Rattle.sq_expr.proofs.FitLemmas as fit
 use Rattle.sq_bind.specs.Visible.{Alias, meant}
-use Rattle.sq_bind.specs.Operand.{alone, operand_faults, operand_class, column_faults, sum_faults, side_of, sum_arg, arg_of, found}
+use Rattle.sq_bind.specs.Operand.{alone, operand_faults, operand_class, column_faults, sum_faults, side_of, sum_arg, arg_of, found_column}
 use Rattle.sq_bind.specs.Condition.{Calls, Split, negated_if, any_equal, at_least, at_most, equal_to, call_of, unsplit, between, split_at_level, split_of, is_kind, column_fits, sum_fits, arg_fits, mismatched, arg_faults, count_faults, typed_faults, call_faults, faults_of_call, faults_at_level, tree_faults}
 use Rattle.sq_bind.specs.Sound.{IsSoundOperand, IsSoundHere, IsSoundTree}
 use Rattle.sq_bind.specs.declared.conjunct.Placed.{Placed}
@@ -189,7 +189,7 @@ module _ (calls : Calls) (has : ColumnOf → ColType → Type 0) (aliases : List
       by (Ok m) is e f =
           let same = is_kind-true m.kind k f in
           subst (λ (k : ColType). FitsArg has k (sum_arg aliases [] (Some c))) same
-          (subst (λ (r : Result Resolved BindFault). has (found r) m.kind) (sym is) (meant_has has aliases held c m is))
+          (subst (λ (r : Result Resolved BindFault). has (found_column r) m.kind) (sym is) (meant_has has aliases held c m is))
       by (Err g) is e f = absurd cc
 
   integer_arg : (k : ColType) (n : ℤ) → is_kind kind.Integer k ≡ true → HasKind k (value.Int n)

@@ -10,7 +10,7 @@ use Rattle.sq_bind.specs.declared.fault.BindFault.{BindFault}
 use Rattle.sq_bind.specs.declared.fault.BindFault.TheVariants.{Unreachable}
 
 -- an alias is reached where some alias is scanned and it stands in the least closed set
-pub record IsReached (block : Block) (alias : ℕ) : Type 0 where
+pub record IsReachedAlias (block : Block) (alias : ℕ) : Type 0 where
   pub scanned : ℕ
   pub u : AliasUse
   pub at : slice_get block.aliases scanned ≡ Some u
@@ -20,8 +20,8 @@ pub record IsReached (block : Block) (alias : ℕ) : Type 0 where
 -- the third round: the first alias that isn't reached
 pub record IsFirstUnreached (block : Block) (alias : ℕ) : Type 0 where
   pub there : alias < length block.aliases
-  pub unreached : IsReached block alias → ⊥
-  pub first : (before : ℕ) → before < alias → IsReached block before
+  pub unreached : IsReachedAlias block alias → ⊥
+  pub first : (before : ℕ) → before < alias → IsReachedAlias block before
 
 -- an alias that can't be reached is the fault of the third round
 abbrev pub IsReachFault : Block → BindFault → Type 0

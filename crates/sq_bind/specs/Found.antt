@@ -8,7 +8,7 @@ use Rattle.sq_expr.specs.declared.block.Block.{Block}
 use Rattle.sq_parse.specs.declared.tree.OrderItem.{OrderItem}
 use Rattle.sq_bind.specs.declared.conjunct.Placed.{Placed}
 use Rattle.sq_bind.specs.Visible.{Alias}
-use Rattle.sq_bind.specs.Statement.{Scope, used, conjunct_of, key_of}
+use Rattle.sq_bind.specs.Statement.{Scope, used, placed_conjunct, key_of}
 
 -- each source's table, where there is one
 abbrev pub IsFound : Scope → List Source → List (Option ℕ) → Type 0
@@ -22,7 +22,7 @@ used_at accesses table = used accesses (unwrap_or table 0)
 abbrev pub block_with : List Access → List (Option ℕ) → List Alias → List OrderItem → List OutCol → List Placed → Block
 block_with accesses found aliases order output placed = record {
   aliases = map (used_at accesses) found;
-  conjuncts = map conjunct_of placed;
+  conjuncts = map placed_conjunct placed;
   output = output;
   order = map (key_of aliases output) order;
 }

@@ -124,9 +124,9 @@ compared_faults aliases at operands =
 abbrev pub nowhere : ColumnOf
 nowhere = record { alias = 0; column = 0 }
 
-abbrev pub found : Result Resolved BindFault → ColumnOf
-found (Ok m) = m.column
-found (Err f) = nowhere
+abbrev pub found_column : Result Resolved BindFault → ColumnOf
+found_column (Ok m) = m.column
+found_column (Err f) = nowhere
 
 -- a number with a minus in front; numbers of a script aren't negative, so the one that has no opposite doesn't occur
 abbrev pub minus : ℤ → ℤ
@@ -137,10 +137,10 @@ abbrev pub factor_of : RawTerm → ℤ
 factor_of t = if t.negative then minus (unwrap_or t.number (pos 1)) else unwrap_or t.number (pos 1)
 
 abbrev pub term_of : List Alias → RawTerm → Term
-term_of aliases t = record { factor = factor_of t; column = option_map (λ c. found (meant aliases c)) t.column }
+term_of aliases t = record { factor = factor_of t; column = option_map (λ c. found_column (meant aliases c)) t.column }
 
 abbrev pub sum_side : List Alias → List RawTerm → Option ColRef → Side
-sum_side aliases terms (Some c) = side.Column (found (meant aliases c))
+sum_side aliases terms (Some c) = side.Column (found_column (meant aliases c))
 sum_side aliases terms None = side.Sum (map (term_of aliases) terms)
 
 -- the side of a comparison that an operand is
@@ -158,7 +158,7 @@ abbrev pub number_arg : ℤ → Arg
 number_arg number = arg.Literal (value.Int number)
 
 abbrev pub sum_arg : List Alias → List RawTerm → Option ColRef → Arg
-sum_arg aliases terms (Some c) = arg.Column (found (meant aliases c))
+sum_arg aliases terms (Some c) = arg.Column (found_column (meant aliases c))
 sum_arg aliases terms None = number_arg (literal_of terms)
 
 -- the argument of a predicate that an operand is: NULL, a text, a number or a column

@@ -4,7 +4,7 @@ use Rattle.std.specs.Str.{bytes_eq}
 use Rattle.std.specs.Map.{lookup}
 use Rattle.sq_value.specs.Name.{lower, is_same_name}
 use Rattle.sq_expr.specs.declared.block.OutCol.{OutCol}
-use Rattle.sq_bind.specs.Statement.{column_of}
+use Rattle.sq_bind.specs.Statement.{output_column}
 use Rattle.sq_expr.specs.declared.cond.ColumnOf.{ColumnOf}
 use Rattle.sq_bind.specs.declared.output.Meant.{Meant}
 use Rattle.sq_bind.specs.declared.fault.BindFault.{BindFault}
@@ -15,7 +15,7 @@ is_at first c = (first.alias == c.alias) && (first.column == c.column)
 
 -- what a name means with one more output column of it
 abbrev pub meant_with : Option Meant → OutCol → Meant
-meant_with None c = record { first = column_of c; is_one = true }
+meant_with None c = record { first = output_column c; is_one = true }
 meant_with (Some m) c = record { first = m.first; is_one = m.is_one && is_at m.first c }
 
 -- the same, where the column may have another name

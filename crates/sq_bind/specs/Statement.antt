@@ -148,8 +148,8 @@ output_faults aliases (items.List list) = flat_map (item_faults aliases) list
 abbrev pub is_same_column : OutCol → OutCol → Bool
 is_same_column x y = (x.alias == y.alias) && (x.column == y.column)
 
-abbrev pub column_of : OutCol → ColumnOf
-column_of c = record { alias = c.alias; column = c.column }
+abbrev pub output_column : OutCol → ColumnOf
+output_column c = record { alias = c.alias; column = c.column }
 
 abbrev pub column_meant : Result Resolved BindFault → Result ColumnOf BindFault
 column_meant (Ok m) = Ok m.column
@@ -159,7 +159,7 @@ column_meant (Err f) = Err f
 abbrev pub sorted_column : List Alias → ColRef → List OutCol → Result ColumnOf BindFault
 sorted_column aliases c [] = column_meant (meant aliases c)
 sorted_column aliases c (x ∷ more) =
-    if list_all (is_same_column x) more then Ok (column_of x) else Err (AmbiguousColumn (column_place c))
+    if list_all (is_same_column x) more then Ok (output_column x) else Err (AmbiguousColumn (column_place c))
 
 -- the output columns that a column of ORDER BY may mean: those of its name, where no alias stands before it
 abbrev pub candidates : List OutCol → Option Name → List ℕ → List OutCol
@@ -237,8 +237,8 @@ bit_in aliases alias = if is_among alias aliases then 2 ^ alias else 0
 abbrev pub span_of : List ℕ → ℕ
 span_of aliases = sum (map (bit_in aliases) (range_with_len 0 12))
 
-abbrev pub conjunct_of : Placed → Conjunct
-conjunct_of p = record { cond = p.cond; span = span_of (aliases_of p.cond) }
+abbrev pub placed_conjunct : Placed → Conjunct
+placed_conjunct p = record { cond = p.cond; span = span_of (aliases_of p.cond) }
 
 abbrev pub scanned : Access
 scanned = record { scan = true; look_up = None }
@@ -257,7 +257,7 @@ key_of aliases output key = order_key (order_column aliases output key.column) k
 unfoldable pub block_of : Scope → Statement → Block
 block_of scope s = record {
   aliases = map (use_of scope) s.sources;
-  conjuncts = map conjunct_of (placed_in scope.calls (aliases_in scope s) s);
+  conjuncts = map placed_conjunct (placed_in scope.calls (aliases_in scope s) s);
   output = output_of (aliases_in scope s) s.items;
   order = map (key_of (aliases_in scope s) (output_of (aliases_in scope s) s.items)) s.order;
 }

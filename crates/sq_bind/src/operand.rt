@@ -232,7 +232,7 @@ impl Compared {
 
 // What a column is bound to, where it has no fault.
 fn column_of(aliases: &[SeenAlias<'_>], column: &ColRef) -> ColumnOf
-    ensures { result ≡ spec.found (meant (map seen aliases.now) column.now) }
+    ensures { result ≡ spec.found_column (meant (map seen aliases.now) column.now) }
 {
     match resolve(aliases, column) {
         Ok(found) => found.column,

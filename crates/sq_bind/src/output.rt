@@ -5,7 +5,7 @@ ghost use Rattle.std.specs.HashMap.{get_by_text};
 ghost use Rattle.sq_expr.specs.declared.block.OutCol.{OutCol};
 ghost use Rattle.sq_bind.specs.Ordered as spec;
 ghost use Rattle.sq_bind.specs.Ordered.{HoldsOutput};
-ghost use Rattle.sq_bind.specs.Statement.{column_of};
+ghost use Rattle.sq_bind.specs.Statement.{output_column};
 
 use indexmap::IndexMap;
 use sq_expr::{ColumnOf, OutCol};
@@ -19,8 +19,8 @@ pub struct Meant {
     pub is_one: bool,
 }
 
-fn column_of(column: &OutCol) -> ColumnOf
-    ensures { result ≡ column_of column.now }
+fn output_column(column: &OutCol) -> ColumnOf
+    ensures { result ≡ output_column column.now }
 {
     ColumnOf {
         alias: column.alias,
@@ -44,7 +44,7 @@ fn meant_with(known: Option<Meant>, column: &OutCol) -> Meant
             is_one: known.is_one && is_at(known.first, column),
         },
         None => Meant {
-            first: column_of(column),
+            first: output_column(column),
             is_one: true,
         },
     }

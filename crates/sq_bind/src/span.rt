@@ -104,7 +104,7 @@ fn span_of(cond: &Cond) -> u16
 /// # Errors
 /// `Memory`: there is no memory for them.
 pub fn conjuncts_of(alloc: Global, placed: Vec<Placed>) -> Result<Items<Conjunct>, Memory>
-    ensures { IfOk result (λ conjuncts. conjuncts ≡ map spec.conjunct_of placed.items) }
+    ensures { IfOk result (λ conjuncts. conjuncts ≡ map spec.placed_conjunct placed.items) }
 {
     let mut conjuncts = Items::new(alloc);
     for Placed { at: _, cond } in placed {

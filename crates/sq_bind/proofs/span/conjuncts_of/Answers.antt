@@ -4,7 +4,7 @@ use Rattle.std.proofs.lemmas.List.{nil_from_length}
 use Rattle.sq_expr.specs.Fits.{aliases_of}
 use Rattle.sq_expr.specs.declared.cond.Cond.{Cond}
 use Rattle.sq_expr.specs.declared.block.Conjunct.{Conjunct}
-use Rattle.sq_bind.specs.Statement.{span_of, conjunct_of}
+use Rattle.sq_bind.specs.Statement.{span_of, placed_conjunct}
 use Rattle.sq_bind.specs.declared.conjunct.Placed.{Placed}
 use Rattle.sq_bind.proofs.span.conjuncts_of.Goals as goal
 
@@ -27,9 +27,9 @@ loop-cond-preserved c =
     let item = ap (λ (n : ℕ). conjunct_at cond n) spans in
     let front = at.conjuncts in
     record {
-      so_far = ap (λ (cs : List Conjunct). cs ++ map conjunct_of rest) (pushed ∙ ap (λ (d : Conjunct). front ++ d ∷ []) item)
-          ∙ append_assoc front (conjunct_of x ∷ []) (map conjunct_of rest)
-          ∙ ap (λ (xs : List Placed). front ++ map conjunct_of xs) (sym steps) ∙ at.invariant.so_far;
+      so_far = ap (λ (cs : List Conjunct). cs ++ map placed_conjunct rest) (pushed ∙ ap (λ (d : Conjunct). front ++ d ∷ []) item)
+          ∙ append_assoc front (placed_conjunct x ∷ []) (map placed_conjunct rest)
+          ∙ ap (λ (xs : List Placed). front ++ map placed_conjunct xs) (sym steps) ∙ at.invariant.so_far;
       left = omega (arith, gone, short, was);
     }
 
@@ -37,6 +37,6 @@ pub returns : goal.returns
 returns c =
     let at = c.loop-cond in
     let empty : into_iter_items at.cond-iterator ≡ [] = nil_from_length (into_iter_items at.cond-iterator) (sym at.invariant.left ∙ c.in-None.ensures.steps.0) in
-    sym (append-nil at.conjuncts) ∙ ap (λ (xs : List Placed). at.conjuncts ++ map conjunct_of xs) (sym empty) ∙ at.invariant.so_far
+    sym (append-nil at.conjuncts) ∙ ap (λ (xs : List Placed). at.conjuncts ++ map placed_conjunct xs) (sym empty) ∙ at.invariant.so_far
     ∙ (let gives : into_iter_items c.into_iter-cond-iterator.result ≡ c.args.placed.items = c.into_iter-cond-iterator.ensures.into_iter_gives.0 in
-    ap (λ (xs : List Placed). map conjunct_of xs) gives)
+    ap (λ (xs : List Placed). map placed_conjunct xs) gives)
