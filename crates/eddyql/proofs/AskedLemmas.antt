@@ -4,8 +4,8 @@ use Rattle.std.specs.Prelude.{option_and_then}
 use Rattle.command_line.specs.Form.{command}
 use Rattle.command_line.specs.declared.command.Command.{Command}
 use Rattle.command_line.specs.Within.{IsTask, IsWithin}
+use Rattle.run_answers.specs.Settings.{AreSettings, settings_of}
 use Rattle.eddyql.specs.Asked.{request_of, asked, is_run_yet}
-use Rattle.eddyql.specs.Settings.{AreSettings, settings_of}
 use Rattle.eddyql.specs.declared.asking.Request.{Request}
 
 pub asked_of : (words : List (List ℕ)) (c : Command) (o : Option Request) → command words ≡ Some c → request_of c ≡ o → asked words ≡ o

@@ -1,14 +1,6 @@
 pub mod AskedLemmas
 pub mod StageLemmas
-pub mod DoingLemmas
-pub mod FilesLemmas
-pub mod AccessLemmas
-pub mod BindingLemmas
-pub mod ApartLemmas
-pub mod AnswerLemmas
-pub mod TallyLemmas
-pub mod ProgressLemmas
-pub mod CountLemmas
+pub mod TaskLemmas
 pub mod OneOutcome
 pub mod PlanLemmas
 pub mod RunLemmas

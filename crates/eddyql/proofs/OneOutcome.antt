@@ -21,16 +21,17 @@ use Rattle.command_line.specs.declared.command.Query.{Query}
 use Rattle.command_line.specs.declared.command.Task.{Task}
 use Rattle.command_line.specs.declared.command.Task.TheVariants as task
 use Rattle.demo_tables.specs.Demo.{demo}
+use Rattle.run_plan.specs.DemoScript.{demo_script}
+use Rattle.run_plan.specs.Accesses.{accesses_read}
+use Rattle.run_plan.specs.Faults.{script_status, bind_status}
+use Rattle.run_plan.specs.Files.{file_read, catalogue_read}
+use Rattle.run_plan.specs.Prepared.{IsSpelled, IsScript, IsBlock, AreBlocks, IsBoundPlan, IsPlan, IsDemoPlan, Predicates}
+use Rattle.run_plan.specs.Steps.{Behind, AndThen, ComesTo, or_refuse, or_fault}
+use Rattle.run_plan.specs.declared.status.FileOf.TheVariants as file
+use Rattle.run_plan.specs.declared.status.Status.{Status}
+use Rattle.run_plan.specs.declared.status.Status.TheVariants as status
 use Rattle.eddyql.specs.Asked.{asked}
-use Rattle.eddyql.specs.Demo.{demo_script}
-use Rattle.eddyql.specs.Accesses.{accesses_read}
-use Rattle.eddyql.specs.Faults.{script_status, bind_status}
-use Rattle.eddyql.specs.Files.{file_read, catalogue_read}
-use Rattle.eddyql.specs.Outcome.{IsSpelled, IsScript, IsBlock, AreBlocks, IsBoundPlan, IsPlan, IsDemoPlan, IsTaskPlan, IsRequested, IsOutcome, OneOutcome, Predicates, task_text}
-use Rattle.eddyql.specs.Steps.{Behind, AndThen, ComesTo, or_refuse, or_fault}
-use Rattle.eddyql.specs.declared.status.FileOf.TheVariants as file
-use Rattle.eddyql.specs.declared.status.Status.{Status}
-use Rattle.eddyql.specs.declared.status.Status.TheVariants as status
+use Rattle.eddyql.specs.Outcome.{IsTaskPlan, IsRequested, IsOutcome, OneOutcome, task_text}
 
 -- what a step comes to is one thing
 abbrev pub IsOne : {A : Type 0} → (Result A Status → Type 0) → Type 0

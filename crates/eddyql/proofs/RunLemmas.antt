@@ -11,32 +11,36 @@ use Rattle.sq_value.specs.Relation.{Relation}
 use Rattle.sq_value.specs.declared.value.Value.{Value}
 use Rattle.sq_value.specs.declared.value.Truth.{Truth}
 use Rattle.sq_expr.specs.declared.block.Block.{Block}
+use Rattle.run_plan.specs.Doing.{Went, Stopped}
+use Rattle.run_plan.specs.Faults.{IsPlaced}
+use Rattle.run_plan.specs.Prepared.{Predicates}
+use Rattle.run_plan.specs.Refusal.{MayRefuse, IsEarly, IsBetween}
+use Rattle.run_plan.specs.Seen.{Folder}
+use Rattle.run_plan.specs.declared.plan.Plan.{Plan}
+use Rattle.run_plan.specs.declared.status.Status.{Status}
+use Rattle.run_plan.specs.declared.status.Status.TheVariants as status
+use Rattle.run_plan.specs.declared.status.Stage.{Stage}
+use Rattle.run_plan.specs.declared.status.Stage.TheVariants as stage
+use Rattle.run_plan.specs.Stage.{stage_of}
+use Rattle.run_plan.proofs.StageLemmas.{holds_anyway, early_not_done, early_not_write, early_not_usage, early_not_found, MayRefuse-read}
+use Rattle.run_answers.specs.Answering.{Answers, Tallied, LinesPut, EndsSo}
+use Rattle.run_answers.specs.Wrote.{Wrote}
+use Rattle.run_answers.specs.Seen.{Sink}
+use Rattle.run_answers.specs.declared.stopping.Stop.{Stop}
+use Rattle.run_answers.specs.declared.stopping.Stop.TheVariants as stop
+use Rattle.run_answers.proofs.ProgressLemmas.{tallied_output}
 use Rattle.eddyql.specs.Asked.{asked, names_of, names_asked, tables_in, is_tallied}
-use Rattle.eddyql.specs.Answering.{Answers, Tallied, LinesPut, EndsSo}
-use Rattle.eddyql.specs.Doing.{Went, Stopped, Wrote}
 use Rattle.eddyql.specs.Ending.{Answered, AnsweredBy, Ended, EndedBy, LinedBy, NotedLines, Finished, stop_at, stop_of}
 use Rattle.eddyql.specs.Lines.{SomeLines, RunOf, Progress, MayFail}
-use Rattle.eddyql.specs.Faults.{IsPlaced}
 use Rattle.eddyql.specs.Note.{IsNoted, IsNotedBehind, NotesOf, line_of}
-use Rattle.eddyql.specs.Outcome.{IsOutcome, IsRequested, Predicates, ReachedFor, ReachedBy, task_text}
-use Rattle.eddyql.specs.Refusal.{MayRefuse, IsEarly, IsBetween}
+use Rattle.eddyql.specs.Outcome.{IsOutcome, IsRequested, ReachedFor, ReachedBy, task_text}
 use Rattle.eddyql.specs.Run.{IsLate, status_of, text_due}
-use Rattle.eddyql.specs.Seen.{Folder, Sink}
 use Rattle.eddyql.specs.declared.asking.Request.{Request}
-use Rattle.eddyql.specs.declared.plan.Plan.{Plan}
 use Rattle.eddyql.specs.declared.run.End.{End}
 use Rattle.eddyql.specs.declared.run.End.TheVariants as end
-use Rattle.eddyql.specs.declared.status.Status.{Status}
-use Rattle.eddyql.specs.declared.status.Status.TheVariants as status
-use Rattle.eddyql.specs.declared.status.Stage.{Stage}
-use Rattle.eddyql.specs.declared.status.Stage.TheVariants as stage
-use Rattle.eddyql.specs.declared.stopping.Stop.{Stop}
-use Rattle.eddyql.specs.declared.stopping.Stop.TheVariants as stop
-use Rattle.eddyql.specs.Stage.{stage_of}
 use Rattle.eddyql.proofs.OneOutcome.{same_outcome}
 use Rattle.eddyql.proofs.PlanLemmas.{outcome_unplanned, outcome_planned, outcome_usage}
-use Rattle.eddyql.proofs.ProgressLemmas.{tallied_output}
-use Rattle.eddyql.proofs.StageLemmas.{MayEnd-early, MayEnd-late, MayEnd-other, ends_by_outcome, holds_anyway, early_not_done, early_not_write, early_not_usage, early_not_found, late_not, late_not_before, MayRefuse-read}
+use Rattle.eddyql.proofs.StageLemmas.{MayEnd-early, MayEnd-late, MayEnd-other, ends_by_outcome, late_not, late_not_before}
 
 -- ---- the ends
 

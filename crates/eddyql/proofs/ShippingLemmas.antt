@@ -5,11 +5,13 @@ use Rattle.fn_registry.specs.Registry.{number_named, kinds_numbered}
 use Rattle.fn_registry.specs.ShippedSignatures.{shipped_signatures}
 use Rattle.fn_registry.specs.declared.signature.Signature.{Signature}
 use Rattle.outside.specs.Files.{File}
+use Rattle.run_plan.specs.Prepared.{predicates}
+use Rattle.run_plan.specs.Seen.{Folder}
+use Rattle.run_plan.specs.declared.status.Status.{Status}
+use Rattle.run_answers.specs.Seen.{Sink}
 use Rattle.eddyql.specs.Ending.{Finished}
-use Rattle.eddyql.specs.Outcome.{IsOutcome, predicates}
-use Rattle.eddyql.specs.Seen.{Folder, Sink}
+use Rattle.eddyql.specs.Outcome.{IsOutcome}
 use Rattle.eddyql.specs.Shipped.{shipped_predicates}
-use Rattle.eddyql.specs.declared.status.Status.{Status}
 
 -- an outcome under the one is an outcome under the other
 pub shipped_outcome : (ss : List Signature) (words : List (List ℕ)) (files : List File) (due : Result (List ℕ) Status)

@@ -6,7 +6,7 @@ use Rattle.command_line.specs.declared.command.Command.{Command}
 use Rattle.command_line.specs.declared.command.TableWord.{TableWord}
 use Rattle.command_line.specs.declared.command.Task.{Task}
 use Rattle.command_line.specs.declared.command.Task.TheVariants.{Query, Demo}
-use Rattle.eddyql.specs.Settings.{settings_of}
+use Rattle.run_answers.specs.Settings.{settings_of}
 use Rattle.eddyql.specs.declared.asking.Request.{Request}
 
 -- whether a command is run by one worker. No other is run yet

@@ -3,24 +3,26 @@ use Rattle.std.specs.Prelude.{◌≡◌, ◌≢◌, ◌⊎◌, ℕ, Bool, true, 
 use Rattle.outside.specs.Files.{File}
 use Rattle.outside.specs.Faults.{NeverFalls, RoseOrFull}
 use Rattle.outside.specs.Told.{Adds, AddsFront}
-use Rattle.eddyql.specs.Outcome.{IsOutcome, Predicates, ReachedBy}
-use Rattle.eddyql.specs.Refusal.{UnlessReadOrMemory}
+use Rattle.run_plan.specs.Prepared.{Predicates}
+use Rattle.run_plan.specs.Refusal.{UnlessReadOrMemory}
+use Rattle.run_plan.specs.Stage.{stage_of}
+use Rattle.run_plan.specs.Faults.{IsPlaced}
+use Rattle.run_plan.specs.Seen.{Folder}
+use Rattle.run_plan.specs.declared.status.FileOf.{FileOf}
+use Rattle.run_plan.specs.declared.status.Stage.{Stage}
+use Rattle.run_plan.specs.declared.status.Stage.TheVariants as stage
+use Rattle.run_plan.specs.declared.status.Status.{Status}
+use Rattle.run_plan.specs.declared.status.Status.TheVariants as status
+use Rattle.run_answers.specs.Seen.{Sink}
+use Rattle.run_answers.specs.declared.stopping.Stop.{Stop}
+use Rattle.run_answers.specs.declared.stopping.Stop.TheVariants as stop
+use Rattle.eddyql.specs.Outcome.{IsOutcome, ReachedBy}
 use Rattle.eddyql.specs.Run.{MayEnd, IsBeforeOutput, IsLate}
 use Rattle.eddyql.specs.Asked.{asked, names_asked, is_tallied}
 use Rattle.eddyql.specs.Lines.{AllLines, SomeLines, IsCutOff, MayFail}
-use Rattle.eddyql.specs.Stage.{stage_of}
 use Rattle.eddyql.specs.Note.{IsNotedBehind, line_of}
-use Rattle.eddyql.specs.Faults.{IsPlaced}
-use Rattle.eddyql.specs.Seen.{Folder, Sink}
 use Rattle.eddyql.specs.declared.run.End.{End}
 use Rattle.eddyql.specs.declared.run.End.TheVariants as end
-use Rattle.eddyql.specs.declared.status.FileOf.{FileOf}
-use Rattle.eddyql.specs.declared.status.Stage.{Stage}
-use Rattle.eddyql.specs.declared.status.Stage.TheVariants as stage
-use Rattle.eddyql.specs.declared.stopping.Stop.{Stop}
-use Rattle.eddyql.specs.declared.stopping.Stop.TheVariants as stop
-use Rattle.eddyql.specs.declared.status.Status.{Status}
-use Rattle.eddyql.specs.declared.status.Status.TheVariants as status
 
 -- a run ended with this status; a fault of the output or the notes has its reason
 pub record Ended (p : Predicates) (words : List (List ℕ)) (old new : Folder) (before now : Sink) (fault : Type 0)

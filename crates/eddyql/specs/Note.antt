@@ -11,14 +11,14 @@ use Rattle.table_csv.specs.declared.fault.TableFault.TheVariants as table
 use Rattle.sq_bind.specs.Fault.{place_of}
 use Rattle.sq_bind.specs.declared.fault.BindFault.{BindFault}
 use Rattle.sq_bind.specs.declared.fault.BindFault.TheVariants as bind
-use Rattle.eddyql.specs.Lines.{AddsFrontBehind}
-use Rattle.eddyql.specs.Seen.{Sink}
-use Rattle.eddyql.specs.declared.status.Status.{Status}
-use Rattle.eddyql.specs.declared.status.Status.TheVariants as status
-use Rattle.eddyql.specs.declared.status.FileOf.{FileOf}
-use Rattle.eddyql.specs.declared.status.FileOf.TheVariants as file
-use Rattle.eddyql.specs.declared.status.LimitOf.{LimitOf}
-use Rattle.eddyql.specs.declared.status.LimitOf.TheVariants as limit
+use Rattle.run_plan.specs.declared.status.Status.{Status}
+use Rattle.run_plan.specs.declared.status.Status.TheVariants as status
+use Rattle.run_plan.specs.declared.status.FileOf.{FileOf}
+use Rattle.run_plan.specs.declared.status.FileOf.TheVariants as file
+use Rattle.run_plan.specs.declared.status.LimitOf.{LimitOf}
+use Rattle.run_plan.specs.declared.status.LimitOf.TheVariants as limit
+use Rattle.run_answers.specs.SoFar.{AddsFrontBehind}
+use Rattle.run_answers.specs.Seen.{Sink}
 
 -- the name of a table, by its number, among the names of all
 abbrev pub name_at : List (List ℕ) → ℕ → List ℕ

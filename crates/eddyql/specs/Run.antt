@@ -1,11 +1,11 @@
 -- How a run may end, beside the outcome of its words over the files.
 use Rattle.std.specs.Prelude.{ℕ, List, [], Result, Ok, Err, MatchOption, ⊤}
-use Rattle.eddyql.specs.Stage.{stage_of, file_unread}
-use Rattle.eddyql.specs.declared.status.FileOf.{FileOf}
-use Rattle.eddyql.specs.declared.status.Stage.{Stage}
-use Rattle.eddyql.specs.declared.status.Stage.TheVariants as stage
-use Rattle.eddyql.specs.declared.status.Status.{Status}
-use Rattle.eddyql.specs.declared.status.Status.TheVariants.{Done}
+use Rattle.run_plan.specs.Stage.{stage_of, file_unread}
+use Rattle.run_plan.specs.declared.status.FileOf.{FileOf}
+use Rattle.run_plan.specs.declared.status.Stage.{Stage}
+use Rattle.run_plan.specs.declared.status.Stage.TheVariants as stage
+use Rattle.run_plan.specs.declared.status.Status.{Status}
+use Rattle.run_plan.specs.declared.status.Status.TheVariants.{Done}
 
 -- a run ends at this stage: done, or by a fault of the output that has its reason, where a text is due; for want of
 -- memory at any time; and by any other refusal only where that is due

@@ -2,7 +2,7 @@
 use Rattle.fn_registry.specs.Meaning.{gives_of}
 use Rattle.fn_registry.specs.Registry.{number_named, kinds_numbered}
 use Rattle.fn_registry.specs.ShippedSignatures.{shipped_signatures}
-use Rattle.eddyql.specs.Outcome.{Predicates, predicates}
+use Rattle.run_plan.specs.Prepared.{Predicates, predicates}
 
 -- `divides`, `same_sign` and `near10`: their names, numbers and types, and what they mean
 abbrev pub shipped_predicates : Predicates

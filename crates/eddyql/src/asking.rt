@@ -3,12 +3,12 @@
 ghost use Rattle.std.specs.Prelude.{◌≡◌, ◌⊎◌, Some, None, map, IfOk, IfErr};
 ghost use Rattle.std.specs.String.{string_bytes};
 ghost use Rattle.command_line.specs.Within.{IsTask};
+ghost use Rattle.run_answers.specs.Settings.{AreSettings};
 ghost use Rattle.eddyql.specs.Asked as spec;
-ghost use Rattle.eddyql.specs.Settings.{AreSettings};
 
-use crate::settings::Settings;
-use crate::status::Status;
 use command_line::{Command, TableWord, Task, WordsFault, read_command};
+use run_answers::Settings;
+use run_plan::Status;
 use std::alloc::Global;
 
 /// What the words ask for, as far as it is run: a script over tables or the demo, and how its

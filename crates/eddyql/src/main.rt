@@ -4,30 +4,18 @@
 
 ghost use Rattle.std.specs.Prelude.{◌≡◌, ◌⊎◌};
 
-mod accesses;
-mod answering;
 mod asking;
-mod counting;
-mod demoing;
-mod loading;
 mod noting;
-mod plan;
 mod planning;
-mod preparing;
 mod program;
-mod refusing;
 mod run;
-mod settings;
 mod shipping;
-mod status;
-mod stopping;
-mod tallying;
 
 use noting::put_note;
 use outside::{RealFolder, RealSink};
 use program::{all_words, code_for};
+use run_plan::Status;
 use shipping::program_as_shipped;
-use status::Status;
 use std::io;
 use std::process::ExitCode;
 use std::rt::Env;

@@ -4,15 +4,18 @@ ghost use Rattle.std.specs.Prelude.{◌≡◌, ◌⊎◌, ◌++◌, [], IfOk, co
 ghost use Rattle.std.specs.String.{string_bytes};
 ghost use Rattle.sq_bind.specs.Fault.{place_of};
 ghost use Rattle.sq_parse.specs.Fault.{fault_place};
+ghost use Rattle.run_answers.specs.Seen.{sink_seen};
 ghost use Rattle.eddyql.specs.Asked.{names_of};
 ghost use Rattle.eddyql.specs.Note as spec;
 ghost use Rattle.eddyql.specs.Note.{IsNoted, NotesOf, line_of};
-ghost use Rattle.eddyql.specs.Seen.{sink_seen};
 
-use crate::status::{BindFault, FileOf, LimitOf, ParseFault, Status, TableFault};
 use command_line::TableWord;
 use outside::Sink;
+use run_plan::{FileOf, LimitOf, Status};
+use sq_bind::BindFault;
+use sq_parse::ParseFault;
 use std::alloc::{AllocError, Global};
+use table_csv::TableFault;
 
 // The name of the table with this number.
 fn name_at(tables: &[TableWord], number: u32) -> &str

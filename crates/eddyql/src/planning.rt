@@ -4,18 +4,15 @@ ghost use Rattle.std.specs.Prelude.{Ok, Err, IfOk, IfErr, All};
 ghost use Rattle.command_line.specs.Within.{IsTask};
 ghost use Rattle.sq_expr.specs.Fits.{IsFit};
 ghost use Rattle.sq_expr.specs.Reach.{IsReachable};
-ghost use Rattle.eddyql.specs.Doing.{Went, Stopped};
+ghost use Rattle.run_plan.specs.Doing.{Went, Stopped};
+ghost use Rattle.run_plan.specs.Prepared.{predicates};
+ghost use Rattle.run_plan.specs.Seen.{folder_seen};
 ghost use Rattle.eddyql.specs.Outcome as spec;
-ghost use Rattle.eddyql.specs.Outcome.{predicates};
-ghost use Rattle.eddyql.specs.Seen.{folder_seen};
 
 use crate::asking::Request;
-use crate::demoing::prepare_demo;
-use crate::plan::Plan;
-use crate::preparing::prepare;
-use crate::status::Status;
 use command_line::Task;
 use outside::Folder;
+use run_plan::{Plan, Status, prepare, prepare_demo};
 use sq_value::Predicates;
 use std::alloc::Global;
 

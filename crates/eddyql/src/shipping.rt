@@ -8,23 +8,24 @@ ghost use Rattle.outside.specs.Faults.{RoseOrFull};
 ghost use Rattle.outside.specs.Told.{Adds};
 ghost use Rattle.fn_registry.specs.Registry.{is_taken};
 ghost use Rattle.fn_registry.specs.Signatures.{signatures};
+ghost use Rattle.run_plan.specs.Seen.{folder_seen};
+ghost use Rattle.run_plan.specs.Stage.{stage_of, code_of};
+ghost use Rattle.run_plan.specs.declared.status.Status.{Status as Ending};
+ghost use Rattle.run_answers.specs.Seen.{sink_seen};
 ghost use Rattle.eddyql.specs.Asked.{asked};
 ghost use Rattle.eddyql.specs.Ending.{Finished};
 ghost use Rattle.eddyql.specs.Lines.{MayFail};
 ghost use Rattle.eddyql.specs.Outcome.{IsOutcome};
 ghost use Rattle.eddyql.specs.Run.{status_of};
-ghost use Rattle.eddyql.specs.Seen.{folder_seen, sink_seen};
 ghost use Rattle.eddyql.specs.Shipped.{shipped_predicates};
-ghost use Rattle.eddyql.specs.Stage.{stage_of, code_of};
-ghost use Rattle.eddyql.specs.declared.status.Status.{Status as Ending};
 
 use crate::noting::put_note;
 use crate::program::{code_for, program};
-use crate::status::Status;
 use fn_registry::{
     AddFault, Functions, Registered, SHIPPED, ShippedFunctions, Stored, divides, near10, same_sign,
 };
 use outside::{Folder, Sink};
+use run_plan::Status;
 use sq_value::{ColType, Kinds, Memory, SqText, Value};
 use std::alloc::Global;
 use std::process::ExitCode;

@@ -6,8 +6,8 @@
 //! begin with `!` stand as they are.
 
 use super::run;
-use crate::status::Status;
 use outside::{Folder, MemoryFolder, MemorySink, SureFolder, SureSink};
+use run_plan::Status;
 use sq_value::NoPredicates;
 use std::alloc::Global;
 use std::test::Fail;

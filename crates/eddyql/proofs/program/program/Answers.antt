@@ -1,12 +1,14 @@
 use Rattle.std.proofs.Common.{◌≡◌, ℕ, List, sym, ap, subst, ◌⊎◌, inl, inr}
+use Rattle.run_plan.specs.Prepared.{Predicates, predicates}
+use Rattle.run_plan.specs.Seen.{Folder}
+use Rattle.run_plan.specs.Stage.{stage_of, code_of}
+use Rattle.run_plan.specs.declared.status.Status.{Status}
+use Rattle.run_plan.specs.declared.status.Status.TheVariants as status
+use Rattle.run_answers.specs.Seen.{Sink}
 use Rattle.eddyql.specs.Ending.{Finished}
 use Rattle.eddyql.specs.Lines.{MayFail}
-use Rattle.eddyql.specs.Outcome.{IsOutcome, Predicates, predicates}
+use Rattle.eddyql.specs.Outcome.{IsOutcome}
 use Rattle.eddyql.specs.Run.{status_of}
-use Rattle.eddyql.specs.Seen.{Folder, Sink}
-use Rattle.eddyql.specs.Stage.{stage_of, code_of}
-use Rattle.eddyql.specs.declared.status.Status.{Status}
-use Rattle.eddyql.specs.declared.status.Status.TheVariants as status
 use Rattle.eddyql.proofs.program.program.Goals as goal
 
 -- the code of a status, or that of want of memory

@@ -1,4 +1,4 @@
-use Rattle.eddyql.proofs.ProgressLemmas.{answers_task}
+use Rattle.eddyql.proofs.TaskLemmas.{answers_task}
 use Rattle.eddyql.proofs.run.put_task.Goals as goal
 
 pub returns-in-Query : goal.returns-in-Query

@@ -1,4 +1,4 @@
-use Rattle.eddyql.specs.Seen.{sink_seen}
+use Rattle.run_answers.specs.Seen.{sink_seen}
 use Rattle.eddyql.proofs.RunLemmas.{ended_by_answers, ended_stopped, lines_answered, lines_unput}
 use Rattle.eddyql.proofs.run.run_query.Goals as goal
 

@@ -1,5 +1,5 @@
 use Rattle.std.proofs.Common.{refl, inl}
-use Rattle.eddyql.specs.declared.status.Status.TheVariants as status
+use Rattle.run_plan.specs.declared.status.Status.TheVariants as status
 use Rattle.eddyql.proofs.RunLemmas.{finished_usage}
 use Rattle.eddyql.proofs.shipping.program_as_shipped.Goals as goal
 

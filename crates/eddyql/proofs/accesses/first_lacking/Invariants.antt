@@ -1,7 +1,0 @@
-use Rattle.std.proofs.Common.{take}
-use Rattle.std.specs.Prelude.{All}
-use Rattle.eddyql.proofs.AccessLemmas.{Has}
-use Rattle.eddyql.proofs.accesses.first_lacking.Given as goal
-
-abbrev pub invariant-loop-index : goal.invariant-loop-index
-invariant-loop-index l = All (Has l.tables) (take l.index l.asked)

@@ -1,5 +1,0 @@
-use Rattle.eddyql.proofs.FilesLemmas.{refuses_bytes}
-use Rattle.eddyql.proofs.loading.table_of.Goals as goal
-
-pub returns-in-Err-clause-refused : goal.returns-in-Err-clause-refused
-returns-in-Err-clause-refused c = rw c.table_status.ensures (refuses_bytes c.args.number c.args.bytes.now c.in-Err.fault c.in-Err.ensures.fault)

@@ -1,6 +1,0 @@
-use Rattle.eddyql.proofs.BindingLemmas.{refuses_statement}
-use Rattle.eddyql.proofs.preparing.bind_one.Goals as goal
-
-pub returns-in-Err-clause-refused : goal.returns-in-Err-clause-refused
-returns-in-Err-clause-refused g c =
-    rw c.bind_status.ensures (refuses_statement _ c.args.number c.args.statement.now c.in-Err.fault c.in-Err.ensures.fault)

@@ -1,5 +1,0 @@
-use Rattle.eddyql.proofs.BindingLemmas.{refuses_script}
-use Rattle.eddyql.proofs.preparing.parse_script.Goals as goal
-
-pub returns-in-Err-clause-refused : goal.returns-in-Err-clause-refused
-returns-in-Err-clause-refused c = rw c.script_status.ensures (refuses_script c.args.text.now c.in-Err.fault c.in-Err.ensures.fault)

@@ -1,7 +1,0 @@
-use Rattle.std.proofs.Common.{◌≡◌}
-use Rattle.std.specs.String.{string_bytes}
-use Rattle.eddyql.specs.Tally as spec
-use Rattle.eddyql.proofs.tallying.built_text.Given as goal
-
-abbrev pub invariant-loop-alias : goal.invariant-loop-alias
-invariant-loop-alias l = string_bytes l.text ≡ spec.built_text l.alias l.log

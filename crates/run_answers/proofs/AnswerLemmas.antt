@@ -1,0 +1,194 @@
+-- Answers: the matches that are found, put in order, are the answer; and texts that are written one behind another.
+use Rattle.std.proofs.Common.{◌≡◌, ◌≢◌, ℕ, List, [], ◌∷◌, ◌++◌, length, take, get_or, map, Option, Result, Ok, Err, refl, sym, ◌∙◌, ap, subst, arith}
+use Rattle.std.specs.Prelude.{All, AllPairs, IfOk}
+use Rattle.std.specs.List.Sorted.{IsPermutation}
+use Rattle.std.specs.declared.cmp.Ordering.{Ordering}
+use Rattle.std.specs.declared.cmp.Ordering.TheVariants.{Less, Equal}
+use Rattle.std.specs.Ordering.{nat_cmp, ordering_then}
+use Rattle.std.specs.Cmp.Lexicographic.{slice_cmp}
+use Rattle.std.proofs.lemmas.Bool.Decides.{nat_tests}
+use Rattle.std.proofs.Math.Seq.{take-append_seam}
+use Rattle.std.proofs.lemmas.List.{length-map, get_or-map}
+use Rattle.std.proofs.lemmas.List.Elements.{All-head, All-tail}
+use Rattle.std.proofs.lemmas.List.Sorted.{IsPermutation-map, IsPermutation-sym, IsPermutation-trans}
+use Rattle.sq_value.specs.Relation.{Relation}
+use Rattle.sq_value.specs.declared.value.Value.{Value}
+use Rattle.sq_value.specs.declared.value.Truth.{Truth}
+use Rattle.sq_value.specs.declared.predicate.Kinds.{Kinds}
+use Rattle.sq_value.proofs.OrderLemmas.{sorted_by_total}
+use Rattle.sq_expr.specs.Fits.{IsFit}
+use Rattle.sq_expr.specs.declared.block.Block.{Block}
+use Rattle.bag_meaning.specs.Bag.{bag}
+use Rattle.bag_meaning.specs.Answer.{answer, answer_order, answer_text, heading_fields, Rises}
+use Rattle.bag_meaning.specs.Combination.{padded, stamped}
+use Rattle.bag_meaning.specs.declared.combo.Combo.{Combo}
+use Rattle.bag_meaning.proofs.AnswerLemmas.{IsBefore, AllPairs-bag, IsAnswer-answer, IsAnswer-only}
+use Rattle.bag_meaning.proofs.KeyLemmas.{answer_order_total}
+use Rattle.bag_meaning.proofs.ProductRange.{bag-in_range}
+use Rattle.eddy_runs.specs.Complete.{IsBagOf}
+use Rattle.outside.proofs.Laws.{RoseOrFull-earlier, Adds-nothing, Adds-twice, AddsFront-nothing, AddsFront-after, AddsFront-longer}
+use Rattle.csv.specs.Writing.{row_text, default_writer}
+use Rattle.result_sink.proofs.TextLemmas.{row_text-some}
+use Rattle.result_sink.specs.Ready.{IsShown, IsOrdered, Differs, rows_of_combo}
+use Rattle.result_sink.specs.declared.fault.WriteFault.{WriteFault}
+use Rattle.result_sink.specs.declared.fault.WriteFault.TheVariants as write
+use Rattle.run_answers.specs.Wrote.{Wrote}
+use Rattle.run_answers.specs.Text.{block_text}
+use Rattle.run_answers.specs.Seen.{Sink}
+use Rattle.run_answers.proofs.ApartLemmas.{AreApart, AreApart-from_pairs, AreApart-permutation}
+
+-- ---- the answer
+
+-- the rows of a match as it is found
+rows_of_stamped : (block : Block) (rows : List ℕ) → length rows ≡ length block.aliases → rows_of_combo block (stamped 0 rows) ≡ rows
+rows_of_stamped block rows e = ap (λ (n : ℕ). take n (padded rows)) (sym e) ∙ take-append_seam rows _
+
+map_same_on : (f : List ℕ → List ℕ) (xs : List (List ℕ)) → All (λ x. f x ≡ x) xs → map f xs ≡ xs
+map_same_on f [] h = refl
+map_same_on f (x ∷ xs) h =
+    ap (λ y. y ∷ map f xs) (All-head (λ z. f z ≡ z) x xs h) ∙ ap (λ ys. x ∷ ys) (map_same_on f xs (All-tail (λ z. f z ≡ z) x xs h))
+
+matches_same : (gives : ℕ → Value → Value → Truth) (block : Block) (tables : List Relation)
+    → All (λ rows. rows_of_combo block (stamped 0 rows) ≡ rows) (bag gives block tables)
+matches_same gives block tables k d h = rows_of_stamped block (get_or (bag gives block tables) k d) (bag-in_range gives block tables k d h).count
+
+-- the rows of what was found are the matches in another order
+rows_found : (gives : ℕ → Value → Value → Truth) (block : Block) (tables : List Relation) (combos : List Combo)
+    → IsBagOf gives block tables combos → IsPermutation (map (rows_of_combo block) combos) (bag gives block tables)
+rows_found gives block tables combos moved =
+    let rows : Combo → List ℕ = λ c. c.rows in
+    let cut : List ℕ → List ℕ = take (length block.aliases) in
+    let given : map cut (map rows combos) ≡ map (rows_of_combo block) combos = map_twice combos in
+    let due : map cut (map padded (bag gives block tables)) ≡ bag gives block tables = cut_twice (bag gives block tables) ∙ map_same_on (λ x. rows_of_combo block (stamped 0 x)) (bag gives block tables) (matches_same gives block tables) in
+    subst (λ (xs : List (List ℕ)). IsPermutation xs (bag gives block tables)) given
+    (subst (λ (xs : List (List ℕ)). IsPermutation (map cut (map rows combos)) xs) due
+    (IsPermutation-map cut (map rows combos) (map padded (bag gives block tables)) moved))
+  where
+    map_twice : (cs : List Combo) → map (take (length block.aliases)) (map (λ (c : Combo). c.rows) cs) ≡ map (rows_of_combo block) cs
+    map_twice [] = refl
+    map_twice (c ∷ cs) = ap (λ ys. rows_of_combo block c ∷ ys) (map_twice cs)
+
+    cut_twice : (xs : List (List ℕ)) → map (take (length block.aliases)) (map padded xs) ≡ map (λ x. rows_of_combo block (stamped 0 x)) xs
+    cut_twice [] = refl
+    cut_twice (x ∷ xs) = ap (λ ys. take (length block.aliases) (padded x) ∷ ys) (cut_twice xs)
+
+-- no two matches have equal rows
+equal_rows : (xs : List ℕ) → slice_cmp nat_cmp xs xs ≡ Equal
+equal_rows [] = refl
+equal_rows (x ∷ xs) =
+    let same : nat_cmp x x ≡ Equal = grind (arith, nat_tests) in
+    ap (λ (o : Ordering). ordering_then o (slice_cmp nat_cmp xs xs)) same ∙ equal_rows xs
+
+apart : (x y : List ℕ) → IsBefore x y → x ≡ y → ⊥
+apart x y h e = never (sym (subst (λ (z : List ℕ). slice_cmp nat_cmp x z ≡ Less) (sym e) h) ∙ equal_rows x)
+  where
+    never : Less ≡ Equal → ⊥
+    never f = cc
+
+-- the rows of what was found are the matches in another order, and so apart
+apart_matches : (gives : ℕ → Value → Value → Truth) (block : Block) (tables : List Relation) → AreApart [] (bag gives block tables)
+apart_matches gives block tables =
+    AreApart-from_pairs [] (bag gives block tables) (λ i j low within same. apart (get_or (bag gives block tables) i []) (get_or (bag gives block tables) j [])
+    (AllPairs-bag gives block tables i j [] low within) same)
+
+pub apart_found : (gives : ℕ → Value → Value → Truth) (block : Block) (tables : List Relation) (combos : List Combo)
+    → IsBagOf gives block tables combos → AllPairs (Differs block) combos
+apart_found gives block tables combos moved = all
+  where
+    rows : List (List ℕ)
+    rows = map (rows_of_combo block) combos
+
+    spread : AreApart [] rows
+    spread = AreApart-permutation [] (bag gives block tables) rows
+        (IsPermutation-sym rows (bag gives block tables) (rows_found gives block tables combos moved)) (apart_matches gives block tables)
+
+    all : AllPairs (Differs block) combos
+    all i j d low within same =
+        let long : length rows ≡ length combos = length-map combos (rows_of_combo block) in
+        let ne : i ≢ j = λ (e : i ≡ j). omega (arith, low, e) in
+        spread i j ne (omega (arith, long, low, within)) (omega (arith, long, within))
+        (get_or-map (rows_of_combo block) combos i d [] (omega (arith, low, within)) ∙ same ∙ sym (get_or-map (rows_of_combo block) combos j d [] within))
+
+-- and the answer's
+pub answer_permutes : (gives : ℕ → Value → Value → Truth) (block : Block) (tables : List Relation) (combos : List Combo) → IsBagOf gives block tables combos
+    → IsPermutation (map (rows_of_combo block) combos) (answer gives block tables)
+answer_permutes gives block tables combos found =
+    IsPermutation-trans (map (rows_of_combo block) combos) (bag gives block tables) (answer gives block tables) (rows_found gives block tables combos found)
+    (IsAnswer-answer gives block tables (answer_order_total sorted_by_total block tables)).permutation
+
+-- what was found, put in order, is the answer
+pub answer_found : (gives : ℕ → Value → Value → Truth) (block : Block) (tables : List Relation) (combos sorted : List Combo)
+    → IsBagOf gives block tables combos → IsPermutation combos sorted → Rises (answer_order block tables) (map (rows_of_combo block) sorted)
+    → map (rows_of_combo block) sorted ≡ answer gives block tables
+answer_found gives block tables combos sorted found moved rises =
+    let given : List (List ℕ) = map (rows_of_combo block) combos in
+    IsAnswer-only gives block tables (answer_order_total sorted_by_total block tables) (map (rows_of_combo block) sorted)
+    (record {
+      permutation = IsPermutation-trans (bag gives block tables) given (map (rows_of_combo block) sorted)
+          (IsPermutation-sym given (bag gives block tables) (rows_found gives block tables combos found))
+          (IsPermutation-map (rows_of_combo block) combos sorted moved);
+      rises = rises;
+    })
+
+pub answer_sorted : {T E : Type 0} (items : T → List Combo) (r : Result T E) (gives : ℕ → Value → Value → Truth) (block : Block) (tables : List Relation)
+    (combos : List Combo) → IsBagOf gives block tables combos → IfOk r (λ x. IsPermutation combos (items x))
+    → IfOk r (λ x. Rises (answer_order block tables) (map (rows_of_combo block) (items x)))
+    → IfOk r (λ x. map (rows_of_combo block) (items x) ≡ answer gives block tables)
+answer_sorted items (Ok x) gives block tables combos e moved rises = answer_found gives block tables combos (items x) e moved rises
+answer_sorted items (Err e) gives block tables combos f moved rises = tt
+
+-- a block that fits can be put in order and written
+pub shown_fit : (kinds : ℕ → Option Kinds) (tables : List Relation) (block : Block) → IsFit kinds tables block → IsShown block tables
+shown_fit kinds tables block fit = record { few = fit.few_aliases; output = fit.output }
+
+pub ordered_fit : (kinds : ℕ → Option Kinds) (tables : List Relation) (block : Block) → IsFit kinds tables block → IsOrdered block tables
+ordered_fit kinds tables block fit = record { few = fit.few_aliases; order = fit.order }
+
+-- ---- the text
+
+-- nothing was written
+pub wrote_nothing : (s : Sink) → Wrote s s [] {A = Unit {0}} (Ok tt)
+wrote_nothing s = record { counts = omega arith; ok = Adds-nothing s.written; failed = λ e. absurd cc; front = tt }
+
+-- want of memory, before anything was written
+pub wrote_no_memory : (s : Sink) (text : List ℕ) → Wrote s s text {A = Unit {0}} (Err write.Memory)
+wrote_no_memory s text = record { counts = omega arith; ok = tt; failed = λ e. absurd cc; front = AddsFront-nothing s.written text }
+
+-- a text is written behind another
+pub wrote_behind : (old mid new : Sink) (first second : List ℕ) (r : Result (Unit {0}) WriteFault) → Wrote old mid first {A = Unit {0}} (Ok tt)
+    → Wrote mid new second r → Wrote old new (first ++ second) r
+wrote_behind old mid new first second (Ok x) w v = record {
+  counts = omega (arith, w.counts, v.counts);
+  ok = Adds-twice old.written mid.written new.written first second w.ok v.ok;
+  failed = λ e. absurd cc;
+  front = tt;
+}
+wrote_behind old mid new first second (Err e) w v = record {
+  counts = omega (arith, w.counts, v.counts);
+  ok = tt;
+  failed = λ f. RoseOrFull-earlier old.faults mid.faults new.faults w.counts (v.failed f);
+  front = AddsFront-after old.written mid.written new.written first second w.ok v.front;
+}
+
+-- a text of which a front was written is a front of a longer one
+pub wrote_front : (old new : Sink) (first second : List ℕ) (e : WriteFault) → Wrote old new first {A = Unit {0}} (Err e)
+    → Wrote old new (first ++ second) {A = Unit {0}} (Err e)
+wrote_front old new first second e w = record {
+  counts = w.counts;
+  ok = tt;
+  failed = w.failed;
+  front = AddsFront-longer old.written new.written first second w.front;
+}
+
+-- the same of an equal text
+pub wrote_text : (old new : Sink) (text other : List ℕ) (r : Result (Unit {0}) WriteFault) → text ≡ other → Wrote old new text r → Wrote old new other r
+wrote_text old new text other r e w = subst (λ (x : List ℕ). Wrote old new x r) e w
+
+-- the text of a block is never empty: its heading ends with a line feed
+pub block_text-some : (gives : ℕ → Value → Value → Truth) (tables : List Relation) (block : Block) → block_text gives tables block ≢ []
+unfolding answer_text
+block_text-some gives tables block e = heading (row_text default_writer (heading_fields block)) _ (row_text-some (heading_fields block)) e
+  where
+    heading : (xs ys : List ℕ) → xs ≢ [] → xs ++ ys ≡ [] → ⊥
+    heading [] ys n f = n refl
+    heading (x ∷ xs) ys n f = cc

@@ -1,0 +1,5 @@
+pub mod ApartLemmas
+pub mod AnswerLemmas
+pub mod TallyLemmas
+pub mod ProgressLemmas
+pub mod CountLemmas

@@ -1,0 +1,8 @@
+pub mod Settings
+pub mod Text
+pub mod Summary
+pub mod Tally
+pub mod Seen
+pub mod SoFar
+pub mod Wrote
+pub mod Answering

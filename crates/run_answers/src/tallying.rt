@@ -1,0 +1,56 @@
+//! The line of counts of a statement.
+
+ghost use Rattle.std.specs.Prelude.{◌≡◌, IfOk};
+ghost use Rattle.std.specs.String.{string_bytes};
+ghost use Rattle.run_answers.specs.Tally as spec;
+
+use bag_meaning::Built;
+use std::alloc::{AllocError, Global};
+
+// The number of rows of an alias that were built.
+fn built_of(log: &[Built], alias: usize) -> usize
+    ensures { result ≡ spec.built_of log.now alias }
+{
+    log.iter()
+        .filter(|built| usize::from(built.alias) == alias)
+        .count()
+}
+
+// A comma before each alias but the first.
+fn comma_before(alias: usize) -> &'static str
+    ensures { result.now ≡ spec.comma_before alias }
+{
+    if alias == 0 { "" } else { "," }
+}
+
+// The numbers of built rows of all aliases, with a comma between two.
+fn built_text(alloc: Global, aliases: usize, log: &[Built]) -> Result<String, AllocError>
+    ensures { IfOk result (λ text. string_bytes text ≡ spec.built_text aliases log.now) }
+{
+    let mut text = String::new(alloc);
+    for alias in 0..aliases {
+        let comma = comma_before(alias);
+        let count = built_of(log, alias);
+        text = format!(in alloc; "{text}{comma}{count}")?;
+    }
+    Ok(text)
+}
+
+/// The line of counts of the statement with this number: the rows that were built of each of so many
+/// aliases, the most hops of a tuple, and the number of keys that were looked up.
+///
+/// # Errors
+/// There is no memory for the line.
+pub fn line_of_counts(
+    alloc: Global,
+    number: usize,
+    aliases: usize,
+    log: &[Built],
+    hops: u32,
+    looked: usize,
+) -> Result<String, AllocError>
+    ensures { IfOk result (λ line. string_bytes line ≡ spec.line_of_counts number aliases log.now hops looked) }
+{
+    let built = built_text(alloc, aliases, log)?;
+    format!(in alloc; "query {number}: built {built} hops {hops} looked {looked}\n")
+}

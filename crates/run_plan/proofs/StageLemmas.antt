@@ -1,0 +1,93 @@
+-- What the stage of a status tells of a step's refusal.
+use Rattle.std.proofs.Common.{◌≡◌, Option, Some, None, refl, ap, subst}
+use Rattle.std.specs.Prelude.{MatchOption, ⊤}
+use Rattle.run_plan.specs.Stage.{stage_of, file_unread}
+use Rattle.run_plan.specs.Refusal.{RefusesAt, MayRefuse, IsBetween, IsFounded, IsEarly, HoldsAt, UnlessReadOrMemory}
+use Rattle.run_plan.specs.Doing.{never}
+use Rattle.run_plan.specs.declared.status.FileOf.{FileOf}
+use Rattle.run_plan.specs.declared.status.Stage.{Stage}
+use Rattle.run_plan.specs.declared.status.Stage.TheVariants as stage
+use Rattle.run_plan.specs.declared.status.Status.{Status}
+use Rattle.run_plan.specs.declared.status.Status.TheVariants as status
+
+-- nor from one that touches no folder
+pub pure_unread : (P : Type 0) (s : Status) (f : FileOf) → MayRefuse never P s → s ≡ status.Read f → ⊥
+pure_unread P s f h e = subst (MayRefuse never P) e h
+
+-- a refusal for a reason that is weaker
+weaker_at : (st : Stage) (P Q : Type 0) → (P → Q) → RefusesAt st P → RefusesAt st Q
+weaker_at stage.Memory P Q f h = tt
+weaker_at stage.Run P Q f h = h
+weaker_at stage.Output P Q f h = h
+weaker_at _ P Q f h = f h
+
+pub MayRefuse-weaker : (reads others : FileOf → Type 0) (P Q : Type 0) (s : Status) → (P → Q) → ((f : FileOf) → reads f → others f)
+    → MayRefuse reads P s → MayRefuse others Q s
+MayRefuse-weaker reads others P Q s f weaker h = by (file_unread s) h
+  where
+    by : (o : Option FileOf) → MatchOption o (RefusesAt (stage_of s) P) reads → MatchOption o (RefusesAt (stage_of s) Q) others
+    by None k = weaker_at (stage_of s) P Q f k
+    by (Some g) k = weaker g k
+
+-- what a step may answer where less is told
+founded : (told tells : Type 0) (s : Status) → (told → tells) → IsFounded told s → IsFounded tells s
+founded told tells (status.NotFound file) f h = f h
+founded told tells _ f h = tt
+
+pub IsEarly-weaker : (told tells : Type 0) (s : Status) → (told → tells) → IsEarly told s → IsEarly tells s
+IsEarly-weaker told tells s f h = record { between = h.between; founded = founded told tells s f h.founded; placed = h.placed }
+
+-- what holds of any status
+pub holds_anyway : (s : Status) (P : Type 0) → P → UnlessReadOrMemory s P
+holds_anyway s P p = by (file_unread s)
+  where
+    at : (st : Stage) → HoldsAt st P
+    at stage.Memory = tt
+    at _ = p
+
+    by : (o : Option FileOf) → MatchOption o (HoldsAt (stage_of s) P) (λ file. ⊤)
+    by None = at (stage_of s)
+    by (Some f) = tt
+
+-- what holds of a status holds by what it stands for
+pub holds_same : (s : Status) (P Q : Type 0) → (P → Q) → UnlessReadOrMemory s P → UnlessReadOrMemory s Q
+holds_same s P Q f = by (file_unread s)
+  where
+    at : (st : Stage) → HoldsAt st P → HoldsAt st Q
+    at stage.Memory h = tt
+    at _ h = f h
+
+    by : (o : Option FileOf) → MatchOption o (HoldsAt (stage_of s) P) (λ file. ⊤) → MatchOption o (HoldsAt (stage_of s) Q) (λ file. ⊤)
+    by None h = at (stage_of s) h
+    by (Some g) h = tt
+
+-- what a status between the words and the output isn't
+between_not : (s : Status) (st : Stage) → stage_of s ≡ st → (IsBetween st → ⊥) → IsBetween (stage_of s) → ⊥
+between_not s st e none h = none (subst IsBetween e h)
+
+pub early_not_done : (told : Type 0) (s : Status) → IsEarly told s → s ≡ status.Done → ⊥
+early_not_done told s h e = between_not s stage.Run (ap stage_of e) (λ x. x) h.between
+
+pub early_not_write : (told : Type 0) (s : Status) → IsEarly told s → s ≡ status.Write → ⊥
+early_not_write told s h e = between_not s stage.Output (ap stage_of e) (λ x. x) h.between
+
+pub early_not_usage : (told : Type 0) (s : Status) → IsEarly told s → s ≡ status.Usage → ⊥
+early_not_usage told s h e = between_not s stage.Words (ap stage_of e) (λ x. x) h.between
+
+pub early_not_found : (told : Type 0) (s : Status) (f : FileOf) → IsEarly told s → s ≡ status.NotFound f → told
+early_not_found told s f h e = subst (IsFounded told) e h.founded
+
+-- the file of a read fault
+read_only : (s : Status) (f : FileOf) → file_unread s ≡ Some f → s ≡ status.Read f
+read_only (status.Read g) f e = let same : g ≡ f = cc in ap status.Read same
+read_only _ f e = absurd cc
+
+-- a read fault has both its reasons
+pub MayRefuse-read : (reached : FileOf → Type 0) (rose P : Type 0) (s : Status) → ((f : FileOf) → s ≡ status.Read f → rose)
+    → MayRefuse reached P s → MayRefuse (λ f. rose × reached f) P s
+MayRefuse-read reached rose P s read h = by (file_unread s) refl h
+  where
+    by : (o : Option FileOf) → file_unread s ≡ o → MatchOption o (RefusesAt (stage_of s) P) reached
+        → MatchOption o (RefusesAt (stage_of s) P) (λ f. rose × reached f)
+    by None e k = k
+    by (Some f) e k = (read f (read_only s f e), k)

@@ -1,0 +1,12 @@
+use Rattle.std.proofs.Common.{◌≡◌, length, take}
+use Rattle.run_plan.specs.Doing.{Went}
+use Rattle.run_plan.specs.Seen.{folder_seen}
+use Rattle.run_plan.proofs.FilesLemmas.{IsReadTo}
+use Rattle.run_plan.proofs.loading.load_tables.Given as goal
+
+abbrev pub invariant-loop-index : goal.invariant-loop-index
+invariant-loop-index g l = record {
+  count : length l.catalogue.tables ≡ l.index;
+  went : Went (folder_seen (g.F.Folder.holds l.initial.folder) (g.F.Folder.faults l.initial.folder))
+      (folder_seen (g.F.Folder.holds l.folder) (g.F.Folder.faults l.folder)) (λ files. IsReadTo files (take l.index l.words) l.catalogue);
+}

@@ -1,0 +1,11 @@
+pub mod Stage
+pub mod Faults
+pub mod Steps
+pub mod Files
+pub mod Accesses
+pub mod DemoScript
+pub mod Prepared
+pub mod Seen
+pub mod Refusal
+pub mod Doing
+pub mod Loaded

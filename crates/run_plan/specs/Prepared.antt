@@ -1,0 +1,90 @@
+-- What a script over its tables, or the demo, must be prepared to: a plan, or the first refusal.
+use Rattle.std.specs.Prelude.{◌≡◌, ◌<◌, ℕ, ◌+◌, ◌%◌, List, [], ◌∷◌, length, take, Option, Result, Ok, Err, IsOk, ⊤}
+use Rattle.sq_value.specs.declared.value.Value.{Value}
+use Rattle.sq_value.specs.declared.value.Truth.{Truth}
+use Rattle.sq_value.specs.declared.predicate.Kinds.{Kinds}
+use Rattle.sq_expr.specs.declared.block.Block.{Block}
+use Rattle.outside.specs.Files.{File}
+use Rattle.sq_parse.specs.Fault.{ReadsAs}
+use Rattle.sq_parse.specs.declared.parser.ParseFault.{ParseFault}
+use Rattle.sq_parse.specs.declared.tree.Script.{Script}
+use Rattle.sq_parse.specs.declared.tree.Statement.{Statement}
+use Rattle.catalogue.specs.Named.{NamedTables}
+use Rattle.sq_bind.specs.Answer as binding
+use Rattle.sq_bind.specs.Condition.{Calls, calling}
+use Rattle.sq_bind.specs.Given.{over}
+use Rattle.sq_bind.specs.Statement.{Scope}
+use Rattle.sq_bind.specs.declared.fault.BindFault.{BindFault}
+use Rattle.demo_tables.specs.Demo.{demo}
+use Rattle.command_line.specs.declared.command.AccessWord.{AccessWord}
+use Rattle.command_line.specs.declared.command.Query.{Query}
+use Rattle.command_line.specs.declared.command.TableWord.{TableWord}
+use Rattle.run_plan.specs.DemoScript.{demo_script}
+use Rattle.run_plan.specs.Faults.{script_status, bind_status}
+use Rattle.run_plan.specs.Files.{file_read, tables_read, catalogue_read}
+use Rattle.run_plan.specs.Accesses.{accesses_read}
+use Rattle.run_plan.specs.Steps.{AndThen, ComesTo, or_fault}
+use Rattle.run_plan.specs.declared.plan.Plan.{Plan}
+use Rattle.run_plan.specs.declared.status.Status.{Status}
+use Rattle.run_plan.specs.declared.status.FileOf.{FileOf}
+use Rattle.run_plan.specs.declared.status.FileOf.TheVariants as file
+
+-- the predicates that are handed in: their names, numbers and types, and their stated meaning
+pub record Predicates : Type 0 where
+  pub calls : Calls
+  pub gives : ℕ → Value → Value → Truth
+
+abbrev pub predicates : (List ℕ → Option ℕ) → (ℕ → Option Kinds) → (ℕ → Value → Value → Truth) → Predicates
+predicates number kinds gives = record { calls = calling number kinds; gives = gives }
+
+-- what a text is as a script: the script that it spells, or its fault
+abbrev pub IsSpelled : List ℕ → Result Script Status → Type 0
+IsSpelled text due = (read : Result Script ParseFault) × ReadsAs text read × (due ≡ or_fault script_status read)
+
+-- the script of the file of this name
+abbrev pub IsScript : List File → List ℕ → Result Script Status → Type 0
+IsScript files name due = AndThen (ComesTo (file_read file.Script files name)) IsSpelled due
+
+-- what a statement is bound to: its block, or its fault; statements count from 1
+abbrev pub IsBlock : Scope → ℕ → Statement → Result Block Status → Type 0
+IsBlock scope number s (Ok block) = binding.IsBound scope s block
+IsBlock scope number s (Err refusal) =
+    (f : BindFault) × binding.IsBindFault scope s f × (refusal ≡ bind_status number f)
+
+-- what statements are bound to, in order, the first of them with this number
+unfoldable pub AreBlocks : Scope → ℕ → List Statement → Result (List Block) Status → Type 0
+AreBlocks scope number [] due = due ≡ Ok []
+AreBlocks scope number (s ∷ more) due =
+    AndThen (IsBlock scope number s)
+    (λ block. AndThen (AreBlocks scope (number + 1) more) (λ blocks. ComesTo (Ok (block ∷ blocks)))) due
+
+-- the plan of a script over a catalogue: the accesses' columns are found, and then all statements are bound
+abbrev pub IsBoundPlan : Predicates → List AccessWord → Script → NamedTables → Result Plan Status → Type 0
+IsBoundPlan p asked script catalogue due =
+    AndThen (ComesTo (accesses_read catalogue.tables asked))
+    (λ accesses. AndThen (AreBlocks (over catalogue accesses p.calls) 1 script.statements)
+    (λ blocks. ComesTo (Ok record { blocks = blocks; catalogue = catalogue }))) due
+
+-- what is to be run: the script is read first, and then the tables in order
+unfoldable pub IsPlan : Predicates → Query → List File → Result Plan Status → Type 0
+IsPlan p q files due =
+    AndThen (IsScript files q.script)
+    (λ script. AndThen (ComesTo (catalogue_read files q.tables))
+    (λ catalogue. IsBoundPlan p q.accesses script catalogue)) due
+
+-- the demo, with so many rows a table: its queries over its tables
+unfoldable pub IsDemoPlan : Predicates → ℕ → ℕ → Result Plan Status → Type 0
+IsDemoPlan p rows seed due =
+    AndThen (IsSpelled demo_script) (λ script. IsBoundPlan p [] script (demo rows (seed % 1000))) due
+
+-- whether a file is one of these tables, and all tables before it are there and in form
+abbrev pub ReachedTable : List File → List TableWord → FileOf → Type 0
+ReachedTable files tables file.Script = ⊥
+ReachedTable files tables (file.Table number) =
+    (number < length tables) × IsOk (tables_read 0 files (take number tables))
+
+-- nothing refuses before a file is loaded: the script is loaded first, then the tables in order
+abbrev pub Reached : Query → List File → FileOf → Type 0
+Reached q files file.Script = ⊤
+Reached q files (file.Table number) =
+    ((script : Script) × IsScript files q.script (Ok script)) × ReachedTable files q.tables (file.Table number)

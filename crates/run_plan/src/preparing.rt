@@ -1,0 +1,201 @@
+//! From what the words ask for to the plan of a run: the script is parsed, the tables are read, the
+//! accesses' columns are found, and all statements are bound.
+
+ghost use Rattle.std.specs.Prelude.{◌≡◌, ◌<◌, ◌≤◌, ◌+◌, Ok, Err, IfOk, IfErr, All, length};
+ghost use Rattle.command_line.specs.Within.{IsAccess, IsQuery};
+ghost use Rattle.sq_bind.specs.Condition.{calling};
+ghost use Rattle.sq_bind.specs.Given.{IsParsed, AreAccesses, over};
+ghost use Rattle.sq_expr.specs.Fits.{IsFit};
+ghost use Rattle.sq_expr.specs.Reach.{IsReachable};
+ghost use Rattle.run_plan.specs.Doing.{Went, Stopped, Refuses, IsParsedScript};
+ghost use Rattle.run_plan.specs.Prepared as spec;
+ghost use Rattle.run_plan.specs.Prepared.{predicates};
+ghost use Rattle.run_plan.specs.Seen.{folder_seen};
+ghost use Rattle.run_plan.specs.declared.status.FileOf.TheVariants as file_of;
+
+use crate::accesses::read_accesses;
+use crate::loading::{load, load_tables};
+use crate::plan::Plan;
+use crate::refusing::{bind_status, script_status};
+use crate::status::{FileOf, Status};
+use catalogue::Catalogue;
+use command_line::{AccessWord, Query};
+use outside::Folder;
+use sq_bind::bind;
+use sq_expr::{Access, Block};
+use sq_parse::{Script, Statement, parse};
+use sq_value::Predicates;
+use sqlite_items::Items;
+use std::alloc::Global;
+
+/// The script that a text of at most 67,108,864 bytes spells.
+///
+/// # Errors
+/// The text's fault, or `Memory`.
+pub fn parse_script(alloc: Global, text: &[u8]) -> Result<Script, Status>
+    requires { length text.now ≤ 67108864 }
+    ensures ok { IfOk result (λ script. spec.IsSpelled text.now (Ok script)) }
+    ensures parsed { IfOk result IsParsedScript }
+    ensures refused { IfErr result (λ s. Refuses (spec.IsSpelled text.now (Err s)) s) }
+{
+    match parse(alloc, text) {
+        Ok(script) => Ok(script),
+        Err(fault) => Err(script_status(fault)),
+    }
+}
+
+// Loads and parses the script.
+fn read_script<F: Folder>(alloc: Global, folder: &mut F, name: &str) -> Result<Script, Status>
+    ensures went { IfOk result (λ script.
+        Went (folder_seen (F.holds folder.old) (F.faults folder.old))
+        (folder_seen (F.holds folder.new) (F.faults folder.new))
+        (λ files. spec.IsScript files name.now (Ok script))) }
+    ensures parsed { IfOk result IsParsedScript }
+    ensures stopped { IfErr result (λ s.
+        Stopped (folder_seen (F.holds folder.old) (F.faults folder.old))
+        (folder_seen (F.holds folder.new) (F.faults folder.new))
+        (λ files. spec.IsScript files name.now (Err s)) (λ files f. f ≡ file_of.Script) s) }
+{
+    let text = load(alloc, folder, name, FileOf::Script)?;
+    parse_script(alloc, text.as_slice())
+}
+
+// The block of the statement with this number, which counts from 1.
+fn bind_one<P: Predicates>(
+    alloc: Global,
+    number: u32,
+    statement: &Statement,
+    catalogue: &Catalogue,
+    accesses: &[Access],
+    functions: &P,
+) -> Result<Block, Status>
+    requires parsed { IsParsed statement.now }
+    requires reached { AreAccesses catalogue.now.tables accesses.now }
+    ensures ok { let calls = calling (P.number_of functions.now) (P.kinds_of functions.now) in
+        IfOk result (λ block. spec.IsBlock (over catalogue.now accesses.now calls) number statement.now (Ok block)) }
+    ensures fits { IfOk result (IsFit (P.kinds_of functions.now) catalogue.now.tables) }
+    ensures reachable { IfOk result IsReachable }
+    ensures refused { let calls = calling (P.number_of functions.now) (P.kinds_of functions.now) in
+        IfErr result (λ s.
+        Refuses (spec.IsBlock (over catalogue.now accesses.now calls) number statement.now (Err s)) s) }
+{
+    match bind(alloc, statement, catalogue, accesses, functions) {
+        Ok(block) => Ok(block),
+        Err(fault) => Err(bind_status(number, fault)),
+    }
+}
+
+// The blocks of a script's statements, in order.
+fn bind_all<P: Predicates>(
+    alloc: Global,
+    script: &Script,
+    catalogue: &Catalogue,
+    accesses: &[Access],
+    functions: &P,
+) -> Result<Items<Block>, Status>
+    requires parsed { IsParsedScript script.now }
+    requires reached { AreAccesses catalogue.now.tables accesses.now }
+    ensures ok { let calls = calling (P.number_of functions.now) (P.kinds_of functions.now) in
+        IfOk result (λ blocks.
+        spec.AreBlocks (over catalogue.now accesses.now calls) 1 script.now.statements (Ok blocks)) }
+    ensures fit { IfOk result (All (IsFit (P.kinds_of functions.now) catalogue.now.tables)) }
+    ensures reachable { IfOk result (All IsReachable) }
+    ensures refused { let calls = calling (P.number_of functions.now) (P.kinds_of functions.now) in
+        IfErr result (λ s.
+        Refuses (spec.AreBlocks (over catalogue.now accesses.now calls) 1 script.now.statements (Err s)) s) }
+{
+    let statements = script.statements.as_slice();
+    let mut blocks = Items::new(alloc);
+    for (index, statement) in statements.iter().enumerate() {
+        let number = index as u32 + 1;
+        let block = bind_one(alloc, number, statement, catalogue, accesses, functions)?;
+        let Ok(()) = blocks.push(block) else {
+            return Err(Status::Memory);
+        };
+    }
+    Ok(blocks)
+}
+
+/// The plan of a script over the tables of a catalogue, which are reached by these accesses.
+///
+/// # Errors
+/// The first refusal: an access's table lacks its column, or a statement can't be bound; or `Memory`.
+pub fn bind_over<P: Predicates>(
+    alloc: Global,
+    asked: &[AccessWord],
+    script: &Script,
+    catalogue: Catalogue,
+    functions: &P,
+) -> Result<Plan, Status>
+    requires few { length asked.now ≤ 16 }
+    requires within { All (IsAccess (length catalogue.tables)) asked.now }
+    requires parsed { IsParsedScript script.now }
+    ensures ok { let p = predicates (P.number_of functions.now) (P.kinds_of functions.now) P.gives in
+        IfOk result (λ plan. spec.IsBoundPlan p asked.now script.now catalogue (Ok plan)) }
+    ensures fit { IfOk result (λ plan. All (IsFit (P.kinds_of functions.now) plan.catalogue.tables) plan.blocks) }
+    ensures reachable { IfOk result (λ plan. All IsReachable plan.blocks) }
+    ensures refused { let p = predicates (P.number_of functions.now) (P.kinds_of functions.now) P.gives in
+        IfErr result (λ s. Refuses (spec.IsBoundPlan p asked.now script.now catalogue (Err s)) s) }
+{
+    let accesses = read_accesses(alloc, catalogue.tables(), asked)?;
+    let blocks = bind_all(alloc, script, &catalogue, accesses.as_slice(), functions)?;
+    Ok(Plan { blocks, catalogue })
+}
+
+// The plan of a script over the tables that were read.
+fn plan_over<P: Predicates>(
+    alloc: Global,
+    query: &Query,
+    script: &Script,
+    catalogue: Catalogue,
+    functions: &P,
+) -> Result<Plan, Status>
+    requires asked { IsQuery query.now }
+    requires parsed { IsParsedScript script.now }
+    requires count { length catalogue.tables ≡ length query.now.tables }
+    ensures ok { let p = predicates (P.number_of functions.now) (P.kinds_of functions.now) P.gives in
+        IfOk result (λ plan. spec.IsBoundPlan p query.now.accesses script.now catalogue (Ok plan)) }
+    ensures fit { IfOk result (λ plan. All (IsFit (P.kinds_of functions.now) plan.catalogue.tables) plan.blocks) }
+    ensures reachable { IfOk result (λ plan. All IsReachable plan.blocks) }
+    ensures refused { let p = predicates (P.number_of functions.now) (P.kinds_of functions.now) P.gives in
+        IfErr result (λ s. Refuses (spec.IsBoundPlan p query.now.accesses script.now catalogue (Err s)) s) }
+{
+    bind_over(
+        alloc,
+        query.accesses.as_slice(),
+        script,
+        catalogue,
+        functions,
+    )
+}
+
+/// The plan of a script over tables: what a run runs.
+///
+/// # Errors
+/// The first refusal, in this order: the script isn't there or can't be read, is too long, or isn't a
+/// script; each table isn't there or can't be read, or isn't a table; an access's table lacks its
+/// column; a statement can't be bound. Want of memory may come at any point.
+pub fn prepare<F: Folder, P: Predicates>(
+    alloc: Global,
+    query: &Query,
+    folder: &mut F,
+    functions: &P,
+) -> Result<Plan, Status>
+    requires { IsQuery query.now }
+    ensures went { let p = predicates (P.number_of functions.now) (P.kinds_of functions.now) P.gives in
+        IfOk result (λ plan.
+        Went (folder_seen (F.holds folder.old) (F.faults folder.old))
+        (folder_seen (F.holds folder.new) (F.faults folder.new))
+        (λ files. spec.IsPlan p query.now files (Ok plan))) }
+    ensures fit { IfOk result (λ plan. All (IsFit (P.kinds_of functions.now) plan.catalogue.tables) plan.blocks) }
+    ensures reachable { IfOk result (λ plan. All IsReachable plan.blocks) }
+    ensures stopped { let p = predicates (P.number_of functions.now) (P.kinds_of functions.now) P.gives in
+        IfErr result (λ s.
+        Stopped (folder_seen (F.holds folder.old) (F.faults folder.old))
+        (folder_seen (F.holds folder.new) (F.faults folder.new))
+        (λ files. spec.IsPlan p query.now files (Err s)) (spec.Reached query.now) s) }
+{
+    let script = read_script(alloc, folder, query.script.as_str())?;
+    let catalogue = load_tables(alloc, folder, query.tables.as_slice())?;
+    plan_over(alloc, query, &script, catalogue, functions)
+}
