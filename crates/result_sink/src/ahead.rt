@@ -15,55 +15,69 @@ use sq_value::{Tables, Value};
 /// For how many combinations cells are looked at together.
 const AHEAD: usize = 32;
 
-/// A word of a value, for which all that its cell points at is looked at.
-fn word_of(value: &Value) -> u64 {
+/// Whether a value is a text. This looks at its cell alone.
+fn is_text(value: &Value) -> bool {
     match value {
-        Value::Null => 0,
-        Value::Int(number) => number.abs_diff(0),
-        Value::Decimal(number) => number.units.abs_diff(0),
-        Value::Text(text) => text.as_str().len() as u64,
+        Value::Text(_) => true,
+        _ => false,
     }
 }
 
-/// A word of a combination's cell.
-fn look(block: &Block, tables: &Tables, combo: &Combo, column: ColumnOf) -> u64
+/// How many bytes a text has, for which what its cell points at is looked at.
+fn text_len(value: &Value) -> u64 {
+    match value {
+        Value::Text(text) => text.as_str().len() as u64,
+        _ => 0,
+    }
+}
+
+/// How many of the combinations have a text in a column: a look at each cell.
+fn count_texts(block: &Block, tables: &Tables, combos: &[Combo], column: ColumnOf) -> u64
     requires few { length block.now.aliases ≤ 12 }
     requires column { HasColumn block.now tables.now column }
 {
-    match cell_of(block, tables, combo, column) {
-        Some(value) => word_of(value),
-        None => 0,
+    let mut texts = 0u64;
+    for combo in combos {
+        if let Some(value) = cell_of(block, tables, combo, column) {
+            texts = texts.wrapping_add(u64::from(is_text(value)));
+        }
     }
+    texts
 }
 
-/// The words of a combination's output columns.
-fn look_at_shown(block: &Block, tables: &Tables, combo: &Combo) -> u64
-    requires { IsShown block.now tables.now }
+/// The lengths of the combinations' texts in a column: a look at each text.
+fn add_lengths(block: &Block, tables: &Tables, combos: &[Combo], column: ColumnOf) -> u64
+    requires few { length block.now.aliases ≤ 12 }
+    requires column { HasColumn block.now tables.now column }
 {
     let mut read = 0u64;
-    for column in block.output.as_slice() {
-        let shown = ColumnOf {
-            alias: column.alias,
-            column: column.column,
-        };
-        read = read.wrapping_add(look(block, tables, combo, shown));
+    for combo in combos {
+        if let Some(value) = cell_of(block, tables, combo, column) {
+            read = read.wrapping_add(text_len(value));
+        }
     }
     read
 }
 
-/// The words of a combination's keys of ORDER BY.
-fn look_at_keys(block: &Block, tables: &Tables, combo: &Combo) -> u64
-    requires { IsOrdered block.now tables.now }
+/// Looks at a column's cells of all the combinations, and then at their texts. Each look of one round
+/// waits for no other, so that the memory answers for many of them at once.
+fn look(block: &Block, tables: &Tables, combos: &[Combo], column: ColumnOf) -> u64
+    requires few { length block.now.aliases ≤ 12 }
+    requires column { HasColumn block.now tables.now column }
 {
-    let mut read = 0u64;
-    for key in block.order.as_slice() {
-        let column = ColumnOf {
-            alias: key.alias,
-            column: key.column,
-        };
-        read = read.wrapping_add(look(block, tables, combo, column));
+    if count_texts(block, tables, combos, column) == 0 {
+        return 0;
     }
-    read
+    add_lengths(block, tables, combos, column)
+}
+
+/// The combinations from a place on that are looked at together.
+fn ahead_of(combos: &[Combo], place: usize) -> &[Combo] {
+    let end = place.saturating_add(AHEAD).min(combos.len());
+    match combos.get(place..end) {
+        Some(next) => next,
+        None => &[],
+    }
 }
 
 /// Looks at the output columns of the combinations from a place on, at each place that is a multiple
@@ -73,8 +87,13 @@ pub(crate) fn read_shown(block: &Block, tables: &Tables, combos: &[Combo], place
 {
     let mut read = 0u64;
     if place % AHEAD == 0 {
-        for next in place..place.saturating_add(AHEAD).min(combos.len()) {
-            read = read.wrapping_add(look_at_shown(block, tables, &combos[next]));
+        let next = ahead_of(combos, place);
+        for column in block.output.as_slice() {
+            let shown = ColumnOf {
+                alias: column.alias,
+                column: column.column,
+            };
+            read = read.wrapping_add(look(block, tables, next, shown));
         }
     }
     read
@@ -87,8 +106,13 @@ pub(crate) fn read_keys(block: &Block, tables: &Tables, combos: &[Combo], place:
 {
     let mut read = 0u64;
     if place % AHEAD == 0 {
-        for next in place..place.saturating_add(AHEAD).min(combos.len()) {
-            read = read.wrapping_add(look_at_keys(block, tables, &combos[next]));
+        let next = ahead_of(combos, place);
+        for key in block.order.as_slice() {
+            let column = ColumnOf {
+                alias: key.alias,
+                column: key.column,
+            };
+            read = read.wrapping_add(look(block, tables, next, column));
         }
     }
     read

@@ -1,7 +1,7 @@
 //! The sides of a comparison and the arguments of a predicate, read over chosen rows.
-ghost use Rattle.std.specs.Prelude.{◌≡◌, is_none};
+ghost use Rattle.std.specs.Prelude.{◌≡◌, Some, is_none};
 ghost use Rattle.std.specs.Option.{option_map};
-ghost use Rattle.sq_value.specs.Rank.{order_between};
+ghost use Rattle.sq_value.specs.Rank.{Number, Text, rank_of, order_between};
 ghost use Rattle.sq_value.specs.Comparison.{truth_of_order};
 ghost use Rattle.sq_value.specs.Key.{rank_of_key};
 ghost use Rattle.sq_value.specs.Relation.{HasKind};
@@ -11,8 +11,9 @@ ghost use Rattle.sq_expr.specs.Fits.{Class, FitsSide, FitsArg};
 ghost use Rattle.sq_expr.specs.Reading.{IsSeen};
 
 use crate::cond::{Arg, Chosen, Side};
-use crate::sum::sum;
+use crate::sum::{number_of, sum};
 use sq_value::{Cmp, Key, Truth, Value, compare, key_of, key_order, truth_of_order};
+use std::cmp::Ordering;
 
 // What a side is compared by, in the chosen rows, for which nothing is copied. None where it is
 // null.
@@ -43,7 +44,35 @@ pub fn is_null(side: &Side, rows: &Chosen<'_>) -> bool
     }
 }
 
-// The truth of a comparison over the chosen rows. Two columns are compared where they lie.
+// The order of two numbers of millionths. None where one is missing.
+fn number_order(x: Option<i128>, y: Option<i128>) -> Option<Ordering>
+    ensures { result ≡ order_between (option_map (λ n. Number n) x) (option_map (λ n. Number n) y) }
+{
+    match (x, y) {
+        (Some(a), Some(b)) => Some(a.cmp(&b)),
+        _ => None,
+    }
+}
+
+// The order of a value and a number of millionths. None where one is missing, and for a text.
+fn order_beside(value: &Value, number: Option<i128>) -> Option<Ordering>
+    ensures { result ≡ order_between (rank_of value.now) (option_map (λ n. Number n) number) }
+{
+    number_order(number_of(value), number)
+}
+
+// The order of a value and a text. None where the value is null, and for a number.
+fn order_beside_text(value: &Value, text: &str) -> Option<Ordering>
+    ensures { result ≡ order_between (rank_of value.now) (Some (Text text.now)) }
+{
+    match value {
+        Value::Text(own) => Some(own.as_str().cmp(text)),
+        _ => None,
+    }
+}
+
+// The truth of a comparison over the chosen rows. Columns and texts are compared where they lie, and
+// sums as numbers.
 pub fn compare_sides(left: &Side, cmp: Cmp, right: &Side, rows: &Chosen<'_>) -> Truth
     requires { (class : Class) × (FitsSide (IsSeen rows.now.tables.now rows.now.uses rows.now.rows) class left.now
         × FitsSide (IsSeen rows.now.tables.now rows.now.uses rows.now.rows) class right.now) }
@@ -52,6 +81,17 @@ pub fn compare_sides(left: &Side, cmp: Cmp, right: &Side, rows: &Chosen<'_>) -> 
 {
     match (left, right) {
         (Side::Column(x), Side::Column(y)) => compare(rows.value(*x), rows.value(*y), cmp),
+        (Side::Column(x), Side::Text(text)) => {
+            truth_of_order(order_beside_text(rows.value(*x), text.as_str()), cmp)
+        }
+        (Side::Column(x), Side::Sum(terms)) => {
+            let number = sum(terms.as_slice(), rows);
+            truth_of_order(order_beside(rows.value(*x), number), cmp)
+        }
+        (Side::Sum(xs), Side::Sum(ys)) => {
+            let (x, y) = (sum(xs.as_slice(), rows), sum(ys.as_slice(), rows));
+            truth_of_order(number_order(x, y), cmp)
+        }
         _ => truth_of_order(key_order(side_key(left, rows), side_key(right, rows)), cmp),
     }
 }

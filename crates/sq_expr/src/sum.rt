@@ -1,13 +1,25 @@
 //! Sums over chosen rows, in millionths.
 ghost use Rattle.std.specs.Prelude.{◌≡◌, ◌*◌, ◌≤◌, ◌^◌, ◌≤ℤ◌, ◌*ℤ◌, unsigned_abs, pos, neg_ℤ, length, All, IfSome};
 ghost use Rattle.sq_value.specs.Rank as spec;
-ghost use Rattle.sq_expr.specs.Meaning.{value_in, term_number, sum_number};
+ghost use Rattle.sq_expr.specs.Meaning.{value_in, rank_number, term_number, sum_number};
 ghost use Rattle.sq_expr.specs.Fits.{FitsTerm};
 ghost use Rattle.sq_expr.specs.Reading.{IsSeen};
 ghost use Rattle.sq_expr.specs.declared.cond.Term.{Term};
 
 use crate::cond::{Chosen, Term};
-use sq_value::{Key, key_of, millionths};
+use sq_value::{Value, millionths};
+
+// The number of a value, in millionths. None where it is null or a text.
+pub fn number_of(value: &Value) -> Option<i128>
+    ensures value { result ≡ rank_number (spec.rank_of value.now) }
+    ensures bounded { IfSome result (λ n. unsigned_abs n ≤ 2 ^ 63 * 1000000) }
+{
+    match value {
+        Value::Int(number) => Some(millionths(*number, 0)),
+        Value::Decimal(number) => Some(millionths(number.units, number.scale)),
+        _ => None,
+    }
+}
 
 // A factor times a number of millionths, which 128 bits hold with room for eight.
 fn product(factor: i64, number: i128) -> i128
@@ -40,9 +52,9 @@ fn term_number(term: Term, rows: &Chosen<'_>) -> Option<i128>
     let Some(column) = term.column else {
         return Some(literal(term.factor));
     };
-    match key_of(rows.value(column)) {
-        Some(Key::Number(number)) => Some(product(term.factor, number)),
-        _ => None,
+    match number_of(rows.value(column)) {
+        Some(number) => Some(product(term.factor, number)),
+        None => None,
     }
 }
 

@@ -16,21 +16,40 @@ use csv::ByteRecord;
 use sq_value::Table;
 use std::alloc::Global;
 
-/// How often a byte stands among these.
-fn count(bytes: &[u8], wanted: u8) -> usize {
-    let mut found = 0usize;
+/// How many bytes are counted in a byte, which holds as many: a compiler counts sixteen at once then.
+const COUNTED: usize = 128;
+
+/// How often a byte stands among so few.
+fn count_few(bytes: &[u8], wanted: u8) -> u8 {
+    let mut found = 0u8;
     for byte in bytes {
-        found = found.wrapping_add(usize::from(*byte == wanted));
+        found = found.wrapping_add(u8::from(*byte == wanted));
     }
     found
 }
 
-/// For how many rows of so many columns to take room: as many as there are line ends, but no more
+/// How often a byte stands among these.
+fn count(bytes: &[u8], wanted: u8) -> usize {
+    let mut found = 0usize;
+    for few in bytes.chunks(COUNTED) {
+        found = found.wrapping_add(usize::from(count_few(few, wanted)));
+    }
+    found
+}
+
+/// How many lines there are about: as many as line feeds, or as carriage returns where there are none.
+fn lines_about(bytes: &[u8]) -> usize {
+    match count(bytes, b'\n') {
+        0 => count(bytes, b'\r'),
+        feeds => feeds,
+    }
+}
+
+/// For how many rows of so many columns to take room: as many as there are lines, but no more
 /// than the bytes have fields, so that the room goes with the file's length, and than a table has.
 fn rows_about(bytes: &[u8], width: usize) -> u32 {
-    let lines = count(bytes, b'\n').max(count(bytes, b'\r'));
     let most = bytes.len() / width.max(1);
-    match u32::try_from(lines.min(most)) {
+    match u32::try_from(lines_about(bytes).min(most)) {
         Ok(rows) => rows.min(MOST_ROWS),
         Err(_) => MOST_ROWS,
     }
