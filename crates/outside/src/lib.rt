@@ -8,6 +8,7 @@
 mod counted;
 mod fault;
 mod folder;
+mod kept;
 mod memory_folder;
 mod memory_sink;
 mod next;

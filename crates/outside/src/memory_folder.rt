@@ -15,7 +15,7 @@ use std::marker::Model;
 
 /// A folder in memory, with faults where they are chosen. Seen as its files, the last one kept
 /// first, the loads that are chosen to fail, the loads made and the faults counted.
-#[derive(Debug, Drop)]
+#[derive(Drop)]
 pub struct MemoryFolder {
     files: Vec<StoredFile>,
     chosen: Vec<u64>,

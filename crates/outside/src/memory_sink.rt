@@ -5,6 +5,7 @@ ghost use Rattle.outside.specs.Faults.{NeverFalls, RoseOrFull, shown, shown-boun
 ghost use Rattle.outside.specs.Told.{Adds, AddsFront};
 
 use crate::fault::PutFault;
+use crate::kept::keep_first;
 use crate::next::is_next;
 use crate::sink::Sink;
 use sq_value::Memory;
@@ -12,7 +13,7 @@ use std::alloc::Global;
 use std::marker::Model;
 
 /// A put that is to fail, by its number from 1, and the bytes that it takes before.
-#[derive(Clone, Copy, Debug)]
+#[derive(Clone, Copy)]
 struct FailingPut {
     put: u64,
     taken: usize,
@@ -31,7 +32,7 @@ impl Model for FailingPut {
 /// A sink in memory of a fixed room, with faults where they are chosen. Seen as what it took, the
 /// room that is left, the puts that are chosen to fail, the last one chosen first, the puts made and
 /// the faults counted.
-#[derive(Debug, Drop)]
+#[derive(Drop)]
 pub struct MemorySink {
     written: Vec<u8>,
     room: usize,
@@ -125,7 +126,7 @@ impl MemorySink {
             .unwrap_or(piece.len())
             .min(piece.len())
             .min(self.room);
-        self.written.extend_from_slice(&piece[..count]).unwrap();
+        keep_first(&mut self.written, piece, count);
         self.room -= count;
         self.puts = self.puts.saturating_add(1);
         if fails {

@@ -8,7 +8,7 @@ use std::alloc::Global;
 use std::marker::Model;
 
 /// A name with the bytes of its file.
-#[derive(Debug, Drop)]
+#[derive(Drop)]
 pub(crate) struct StoredFile {
     name: String,
     bytes: Vec<u8>,

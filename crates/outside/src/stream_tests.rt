@@ -21,38 +21,59 @@ fn put_into<S: Sink>(sink: &mut S, piece: &[u8]) -> Result<(), PutFault> {
     sink.put(piece)
 }
 
-/// A load through the trait alone.
-fn load_from<F: Folder>(
+/// Whether bytes came, and are these.
+fn is_text<E>(loaded: &Result<Vec<u8>, E>, text: &[u8]) -> bool {
+    match loaded {
+        Ok(bytes) => bytes.as_slice() == text,
+        Err(_) => false,
+    }
+}
+
+/// The first of eight limits at which a load through the trait alone gives anything but the first
+/// bytes of the text of 300,000.
+fn first_wrong<F: Folder>(
     folder: &mut F,
     alloc: Global,
     name: &str,
-    limit: usize,
-) -> Result<Vec<u8>, LoadFault> {
-    folder.load(alloc, name, limit)
+) -> Result<Option<usize>, AllocError> {
+    let text = text_of(alloc, 300_000)?;
+    for limit in [0, 1, 4_096, 4_097, 131_072, 200_000, 300_000, 300_001] {
+        let loaded = folder.load(alloc, name, limit);
+        if !is_text(&loaded, &text[..limit.min(text.len())]) {
+            return Ok(Some(limit));
+        }
+    }
+    Ok(None)
+}
+
+/// Whether a load through the trait alone fails.
+fn is_failed<F: Folder>(folder: &mut F, alloc: Global, name: &str) -> bool {
+    folder.load(alloc, name, 4).err() == Some(LoadFault::Failed)
+}
+
+/// Writes the text of 300,000 bytes, and another under the same name without its blanks.
+fn write_files(rt: &HostRuntime, name: &str) -> Result<(), Fail> {
+    let text = text_of(rt.alloc(), 300_000)?;
+    fs::write(rt, name, text.as_slice())?;
+    fs::write(rt, name.trim(), "trimmed")?;
+    Ok(())
 }
 
 #[test]
 fn files_are_loaded_by_their_whole_names_up_to_the_limit(rt: HostRuntime) -> Result<(), Fail> {
-    let text = text_of(rt.alloc(), 300_000)?;
     let name = " outside_test_file ";
-    fs::write(&rt, name, text.as_slice())?;
-    fs::write(&rt, "outside_test_file", "trimmed")?;
+    write_files(&rt, name)?;
     let mut folder = RealFolder::new(&rt);
-    for limit in [0, 1, 4_096, 4_097, 131_072, 200_000, 300_000, 300_001] {
-        let bytes = load_from(&mut folder, rt.alloc(), name, limit)?;
-        let count = limit.min(text.len());
-        assert_eq!(rt; bytes.as_slice(), &text[..count], "limit {limit}");
-    }
-    fs::remove_file(&rt, "outside_test_file")?;
+    let wrong = first_wrong(&mut folder, rt.alloc(), name)?;
+    fs::remove_file(&rt, name.trim())?;
     fs::remove_file(&rt, name)?;
-    assert_eq!(rt; folder.faults(), 0);
-    let failed = load_from(&mut folder, rt.alloc(), name, 4);
-    assert_eq!(rt; failed.err(), Some(LoadFault::Failed));
-    assert_eq!(rt; folder.faults(), 1);
+    assert_eq!(rt; wrong, None);
+    assert!(rt; folder.faults() == 0);
+    assert!(rt; is_failed(&mut folder, rt.alloc(), name));
+    assert!(rt; folder.faults() == 1);
     // A folder can be opened, and not read.
-    let failed = load_from(&mut folder, rt.alloc(), ".", 4);
-    assert_eq!(rt; failed.err(), Some(LoadFault::Failed));
-    assert_eq!(rt; folder.faults(), 2);
+    assert!(rt; is_failed(&mut folder, rt.alloc(), "."));
+    assert!(rt; folder.faults() == 2);
     Ok(())
 }
 
@@ -110,8 +131,7 @@ fn a_stream_is_read_to_its_end_or_the_limit(rt: HostRuntime) {
     ];
     for (given, text, calls, left) in whole {
         let (loaded, faults, made, rest) = load_given(rt.alloc(), given, ErrorKind::Other);
-        let same = loaded.is_ok_and(|bytes| bytes.as_slice() == text.as_bytes());
-        assert!(rt; same && (faults, made, rest) == (7, calls, left));
+        assert!(rt; is_text(&loaded, text.as_bytes()) && (faults, made, rest) == (7, calls, left));
     }
     let failing = [((2, 1, 9), 1, 5), ((2, 2, 9), 2, 3), ((2, 4, 9), 4, 0)];
     let kinds = [
@@ -122,7 +142,7 @@ fn a_stream_is_read_to_its_end_or_the_limit(rt: HostRuntime) {
     for (given, calls, left) in failing {
         for kind in kinds {
             let (loaded, faults, made, rest) = load_given(rt.alloc(), given, kind);
-            let failed = loaded.is_err_and(|fault| fault == LoadFault::Failed);
+            let failed = loaded.err() == Some(LoadFault::Failed);
             assert!(rt; failed && (faults, made, rest) == (8, calls, left));
         }
     }
@@ -200,14 +220,18 @@ fn a_piece_is_written_whole_and_then_flushed(rt: HostRuntime) {
     }
 }
 
+/// Puts a text and then nothing into a stream that takes all, and answers whether both were taken, and
+/// are all that was.
+fn is_taken(alloc: Global, text: &[u8]) -> bool {
+    let mut taken = Vec::new(alloc);
+    let mut sink = RealSink::new(&mut taken);
+    let puts = (put_into(&mut sink, text), put_into(&mut sink, b""));
+    puts == (Ok(()), Ok(())) && sink.faults() == 0 && taken.as_slice() == text
+}
+
 #[test]
 fn a_long_piece_is_taken_whole(rt: HostRuntime) -> Result<(), Fail> {
     let text = text_of(rt.alloc(), 300_000)?;
-    let mut taken = Vec::new(rt.alloc());
-    let mut sink = RealSink::new(&mut taken);
-    assert_eq!(rt; put_into(&mut sink, text.as_slice()), Ok(()));
-    assert_eq!(rt; put_into(&mut sink, b""), Ok(()));
-    assert_eq!(rt; sink.faults(), 0);
-    assert_eq!(rt; taken.as_slice(), text.as_slice());
+    assert!(rt; is_taken(rt.alloc(), text.as_slice()));
     Ok(())
 }

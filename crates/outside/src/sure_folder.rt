@@ -11,7 +11,7 @@ use std::alloc::Global;
 use std::marker::Model;
 
 /// A folder in memory no load of which fails. Seen as its files, the last one kept first.
-#[derive(Debug, Drop)]
+#[derive(Drop)]
 pub struct SureFolder {
     files: Vec<StoredFile>,
 }

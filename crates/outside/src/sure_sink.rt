@@ -5,6 +5,7 @@ ghost use Rattle.outside.specs.Sure.{empty_sink, after_piece, told};
 ghost use Rattle.outside.specs.Faults.{shown-bounded};
 
 use crate::fault::PutFault;
+use crate::kept::keep_first;
 use crate::sink::Sink;
 use sq_value::Memory;
 use std::alloc::Global;
@@ -12,7 +13,7 @@ use std::marker::Model;
 
 /// A sink that takes every piece whole. It keeps the first bytes, as many as it has room for, and
 /// tells what was written while all of it has fitted.
-#[derive(Debug, Drop)]
+#[derive(Drop)]
 pub struct SureSink {
     kept: Vec<u8>,
     room: usize,
@@ -66,7 +67,7 @@ impl Sink for SureSink {
         ensures after { self.new ≡ after_piece self.old piece.now }
     {
         let count = piece.len().min(self.room);
-        self.kept.extend_from_slice(&piece[..count]).unwrap();
+        keep_first(&mut self.kept, piece, count);
         self.fitted = self.fitted && piece.len() <= self.room;
         self.room -= count;
         Ok(())

@@ -1,16 +1,20 @@
 //! The answers of single calls, worked out by hand.
 use crate::{Folder, LoadFault, MemoryFolder, MemorySink, PutFault, Sink, SureFolder, SureSink};
+use sq_value::Memory;
 use std::alloc::Global;
 use std::test::Fail;
 
-/// A load through the trait alone.
-fn load_from<F: Folder>(
-    folder: &mut F,
-    alloc: Global,
-    name: &str,
-    limit: usize,
-) -> Result<Vec<u8>, LoadFault> {
-    folder.load(alloc, name, limit)
+/// Whether a load through the trait alone gives these bytes.
+fn gives<F: Folder>(folder: &mut F, alloc: Global, name: &str, limit: usize, text: &[u8]) -> bool {
+    match folder.load(alloc, name, limit) {
+        Ok(bytes) => bytes.as_slice() == text,
+        Err(_) => false,
+    }
+}
+
+/// What a load through the trait alone is refused with.
+fn refused<F: Folder>(folder: &mut F, alloc: Global, name: &str) -> Option<LoadFault> {
+    folder.load(alloc, name, 9).err()
 }
 
 /// A put through the trait alone.
@@ -23,51 +27,49 @@ fn folders_give_what_they_keep(rt: HostRuntime) -> Result<(), Fail> {
     let mut folder = MemoryFolder::new(rt.alloc());
     folder.fail_at(3)?;
     folder.keep("f", b"ab")?;
-    assert_eq!(rt;
-        load_from(&mut folder, rt.alloc(), "f", 1)?.as_slice(),
-        b"a".as_slice()
-    );
-    let absent = load_from(&mut folder, rt.alloc(), "g", 9);
-    assert_eq!(rt; absent.err(), Some(LoadFault::Absent));
-    assert_eq!(rt; folder.faults(), 0);
-    let failed = load_from(&mut folder, rt.alloc(), "f", 9);
-    assert_eq!(rt; failed.err(), Some(LoadFault::Failed));
-    assert_eq!(rt; folder.faults(), 1);
+    assert!(rt; gives(&mut folder, rt.alloc(), "f", 1, b"a"));
+    assert!(rt; refused(&mut folder, rt.alloc(), "g") == Some(LoadFault::Absent));
+    assert!(rt; folder.faults() == 0);
+    assert!(rt; refused(&mut folder, rt.alloc(), "f") == Some(LoadFault::Failed));
+    assert!(rt; folder.faults() == 1);
     folder.keep("f", b"c")?;
-    assert_eq!(rt;
-        load_from(&mut folder, rt.alloc(), "f", 9)?.as_slice(),
-        b"c".as_slice()
-    );
-
-    let mut sure = SureFolder::new(rt.alloc());
-    sure.keep("f", b"ab")?;
-    assert_eq!(rt;
-        load_from(&mut sure, rt.alloc(), "f", 1)?.as_slice(),
-        b"a".as_slice()
-    );
-    let absent = load_from(&mut sure, rt.alloc(), "g", 9);
-    assert_eq!(rt; absent.err(), Some(LoadFault::Absent));
+    assert!(rt; gives(&mut folder, rt.alloc(), "f", 9, b"c"));
+    assert!(rt; sure_folder_gives(rt.alloc())?);
     Ok(())
+}
+
+/// Whether a folder without faults gives what it keeps.
+fn sure_folder_gives(alloc: Global) -> Result<bool, Memory> {
+    let mut sure = SureFolder::new(alloc);
+    sure.keep("f", b"ab")?;
+    let given = gives(&mut sure, alloc, "f", 1, b"a");
+    Ok(given && refused(&mut sure, alloc, "g") == Some(LoadFault::Absent))
 }
 
 #[test]
 fn sinks_take_as_much_as_fits(rt: HostRuntime) -> Result<(), Fail> {
     let mut sink = MemorySink::with_room(rt.alloc(), 8)?;
     sink.fail_at(2, 1)?;
-    assert_eq!(rt; put_into(&mut sink, b"ab"), Ok(()));
-    assert_eq!(rt; put_into(&mut sink, b"cd"), Err(PutFault::Failed));
-    assert_eq!(rt; sink.written(), b"abc".as_slice());
-    assert_eq!(rt; sink.faults(), 1);
-
-    let mut small = MemorySink::with_room(rt.alloc(), 1)?;
-    assert_eq!(rt; put_into(&mut small, b"ab"), Err(PutFault::Failed));
-    assert_eq!(rt; small.written(), b"a".as_slice());
-    assert_eq!(rt; small.faults(), 1);
-
-    let mut sure = SureSink::with_room(rt.alloc(), 2)?;
-    assert_eq!(rt; put_into(&mut sure, b"abc"), Ok(()));
-    assert_eq!(rt; sure.written(), b"ab".as_slice());
+    assert!(rt; put_into(&mut sink, b"ab").is_ok());
+    assert!(rt; put_into(&mut sink, b"cd") == Err(PutFault::Failed));
+    assert!(rt; sink.written() == b"abc".as_slice() && sink.faults() == 1);
+    assert!(rt; small_sink_takes(rt.alloc())?);
+    assert!(rt; sure_sink_takes(rt.alloc())?);
     Ok(())
+}
+
+/// Whether a sink with room for one byte takes the first of two, and fails.
+fn small_sink_takes(alloc: Global) -> Result<bool, Memory> {
+    let mut small = MemorySink::with_room(alloc, 1)?;
+    let failed = put_into(&mut small, b"ab") == Err(PutFault::Failed);
+    Ok(failed && small.written() == b"a".as_slice() && small.faults() == 1)
+}
+
+/// Whether a sink without faults keeps the first two bytes of three.
+fn sure_sink_takes(alloc: Global) -> Result<bool, Memory> {
+    let mut sure = SureSink::with_room(alloc, 2)?;
+    let taken = put_into(&mut sure, b"abc").is_ok();
+    Ok(taken && sure.written() == b"ab".as_slice())
 }
 
 #[test]

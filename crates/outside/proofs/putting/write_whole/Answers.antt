@@ -1,4 +1,6 @@
-use Rattle.std.proofs.Common.{rules}
+use Rattle.std.proofs.Common.{subst, rules}
+use Rattle.std.specs.Io.KnownBytes.{Appends}
+use Rattle.std.proofs.lemmas.List.{take_all}
 use Rattle.std.proofs.lemmas.Result.{err_from_is_err_and}
 use Rattle.outside.proofs.StreamLemmas.{Appends-more, TakesPrefix-stopped}
 use Rattle.outside.proofs.putting.write_whole.Goals as goal
@@ -17,3 +19,9 @@ returns-in_err-start-clause-prefix g c =
     let p = err_from_is_err_and c.from_residual.result c.from_residual.ensures.1 in
     rw p.1
     (TakesPrefix-stopped _ _ _ c.args.piece.now c.loop-start.start c.loop-start.invariant.taken c.in_err-start.ensures.untaken)
+
+-- the loop has come to the end of the piece
+pub returns-clause-whole : goal.returns-clause-whole
+returns-clause-whole g c =
+    subst (Appends (g.W.Write.contents c.args.stream.now) (g.W.Write.contents c.loop-start.stream))
+    (take_all c.loop-start.start c.args.piece.now c.loop-start-test.false) c.loop-start.invariant.taken
