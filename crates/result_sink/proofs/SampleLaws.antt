@@ -14,7 +14,7 @@ use Rattle.sq_expr.specs.declared.block.OutCol.{OutCol}
 use Rattle.sq_expr.specs.declared.block.OrderKey.{OrderKey}
 use Rattle.bag_meaning.specs.Bag.{uses_of}
 use Rattle.bag_meaning.specs.declared.combo.Combo.{Combo}
-use Rattle.result_sink.specs.Ready.{HasColumn, IsShown, IsOrdered, Differs, column_of, column_of_key, rows_of_combo}
+use Rattle.result_sink.specs.Ready.{HasColumn, IsShown, IsOrdered, Differs, shown_column, column_of_key, rows_of_combo}
 use Rattle.result_sink.specs.Samples.{sample_columns, AreSampleTables, IsSampleBlock, Fall}
 
 -- the table of each of two aliases
@@ -55,8 +55,8 @@ sample_shown block tables are is =
     record {
       few = omega (arith, sample_aliases block is);
       output =
-          All-weaker (λ (o : OutCol). (o.alias < 2) × (o.column < 4)) (λ (o : OutCol). HasColumn block tables (column_of o))
-          (λ o h. sample_column block tables (column_of o) are is h.0 h.1) block.output is.output;
+          All-weaker (λ (o : OutCol). (o.alias < 2) × (o.column < 4)) (λ (o : OutCol). HasColumn block tables (shown_column o))
+          (λ o h. sample_column block tables (shown_column o) are is h.0 h.1) block.output is.output;
     }
 
 pub sample_ordered : (block : Block) (tables : List Relation) → AreSampleTables tables → IsSampleBlock block → IsOrdered block tables

@@ -18,13 +18,13 @@ abbrev pub HasColumn : Block → List Relation → ColumnOf → Type 0
 HasColumn block tables column = IsSome (kind_in tables (uses_of block) column)
 
 -- the column that an output column shows
-abbrev pub column_of : OutCol → ColumnOf
-column_of shown = record { alias = shown.alias; column = shown.column }
+abbrev pub shown_column : OutCol → ColumnOf
+shown_column shown = record { alias = shown.alias; column = shown.column }
 
 -- a block has at most 12 aliases and its output columns are there, as those of a block that fits
 pub record IsShown (block : Block) (tables : List Relation) : Type 0 where
   pub few : length block.aliases ≤ 12
-  pub output : All (λ shown. HasColumn block tables (column_of shown)) block.output
+  pub output : All (λ shown. HasColumn block tables (shown_column shown)) block.output
 
 -- the column of a key of ORDER BY
 abbrev pub column_of_key : OrderKey → ColumnOf
