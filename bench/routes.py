@@ -16,6 +16,7 @@ import tempfile
 
 TOP = os.path.dirname(os.path.dirname(os.path.realpath(__file__)))
 sys.path.insert(0, f"{TOP}/bench/engines")
+sys.dont_write_bytecode = True
 import workloads  # noqa: E402 (behind the path that it stands in)
 
 NAME = "eddyql_routes"
