@@ -1,5 +1,5 @@
 -- What the words of the command line ask to be run.
-use Rattle.std.specs.Prelude.{ℕ, Bool, false, ◌==◌, List, [], map, Option, Some, None, option_and_then, if◌then◌else◌}
+use Rattle.std.specs.Prelude.{ℕ, Bool, false, List, [], map, Option, option_map}
 use Rattle.std.specs.Option.{option_map_or}
 use Rattle.command_line.specs.Form.{command}
 use Rattle.command_line.specs.declared.command.Command.{Command}
@@ -9,17 +9,13 @@ use Rattle.command_line.specs.declared.command.Task.TheVariants.{Query, Demo}
 use Rattle.run_answers.specs.Settings.{settings_of}
 use Rattle.eddyql.specs.declared.asking.Request.{Request}
 
--- whether a command is run by one worker. No other is run yet
-abbrev pub is_run_yet : Command → Bool
-is_run_yet c = c.workers == 1
-
 -- what is to be run, and how its statements are
-abbrev pub request_of : Command → Option Request
-request_of c = if is_run_yet c then Some record { task = c.task; settings = settings_of c } else None
+abbrev pub request_of : Command → Request
+request_of c = record { task = c.task; settings = settings_of c }
 
--- what words ask for, where they are in form and are run yet
+-- what words ask for, where they are in form
 unfoldable pub asked : List (List ℕ) → Option Request
-asked words = option_and_then request_of (command words)
+asked words = option_map request_of (command words)
 
 -- the tables of the words: the demo has none
 abbrev pub tables_in : Task → List TableWord

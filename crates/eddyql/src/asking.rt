@@ -1,4 +1,4 @@
-//! The words of the command line, as far as what they ask for is run.
+//! What the words of the command line ask for.
 
 ghost use Rattle.std.specs.Prelude.{◌≡◌, ◌⊎◌, Some, None, map, IfOk, IfErr};
 ghost use Rattle.std.specs.String.{string_bytes};
@@ -11,8 +11,7 @@ use run_answers::Settings;
 use run_plan::Status;
 use std::alloc::Global;
 
-/// What the words ask for, as far as it is run: a script over tables or the demo, and how its
-/// statements are run.
+/// What the words ask for: a script over tables or the demo, and how its statements are run.
 #[derive(Debug, Drop)]
 pub struct Request {
     pub task: Task,
@@ -31,8 +30,8 @@ impl Request {
     }
 }
 
-// What a command asks for: one that wants several workers isn't run yet.
-fn request_of(command: Command) -> Option<Request>
+// What a command asks for.
+fn request_of(command: Command) -> Request
     ensures { result ≡ spec.request_of command }
 {
     let Command {
@@ -43,22 +42,20 @@ fn request_of(command: Command) -> Option<Request>
         tally,
         task,
     } = command;
-    if workers != 1 {
-        return None;
-    }
     let settings = Settings {
+        workers,
         policy,
         seed,
         route,
         tally,
     };
-    Some(Request { task, settings })
+    Request { task, settings }
 }
 
 /// What the words ask for.
 ///
 /// # Errors
-/// `Usage`: exactly where the words aren't in form, or ask for what isn't run yet; or `Memory`.
+/// `Usage`: exactly where the words aren't in form; or `Memory`.
 pub fn asked(alloc: Global, words: &[String]) -> Result<Request, Status>
     ensures ok { IfOk result (λ a. spec.asked (map string_bytes words.now) ≡ Some a) }
     ensures task { IfOk result (λ a. IsTask a.task) }
@@ -67,10 +64,7 @@ pub fn asked(alloc: Global, words: &[String]) -> Result<Request, Status>
         ⊎ ((s ≡ Status.Usage) × (spec.asked (map string_bytes words.now) ≡ None))) }
 {
     match read_command(alloc, words) {
-        Ok(command) => match request_of(command) {
-            Some(request) => Ok(request),
-            None => Err(Status::Usage),
-        },
+        Ok(command) => Ok(request_of(command)),
         Err(WordsFault::OutOfForm) => Err(Status::Usage),
         Err(WordsFault::Memory) => Err(Status::Memory),
     }

@@ -11,6 +11,7 @@ mod program;
 mod run;
 mod shipping;
 
+use eddy_worker::NoGate;
 use noting::put_note;
 use outside::{RealFolder, RealSink};
 use program::{all_words, code_for};
@@ -41,7 +42,15 @@ fn main(rt: HostRuntime) -> ExitCode {
         Ok(words) => {
             let mut folder = RealFolder::new(&rt);
             let mut out = RealSink::new(rt.stdout());
-            program_as_shipped(rt.alloc(), &words, &mut folder, &mut out, &mut notes)
+            program_as_shipped(
+                &rt,
+                rt.alloc(),
+                &words,
+                &mut folder,
+                &mut out,
+                &mut notes,
+                &NoGate,
+            )
         }
         Err(error) => {
             let status = status_without_words(&error);

@@ -20,12 +20,15 @@ ghost use Rattle.eddyql.specs.Outcome.{IsOutcome};
 ghost use Rattle.eddyql.specs.Run.{status_of};
 
 use crate::run::run;
+use eddy_worker::Gate;
 use outside::{Folder, Sink};
 use run_plan::Status;
 use sq_value::Predicates;
 use std::alloc::{AllocError, Global};
 use std::env::Args;
 use std::process::ExitCode;
+use std::sync::Wait;
+use std::thread::Threads;
 
 /// All words, in order.
 ///
@@ -62,13 +65,22 @@ fn behind_name(words: &[String]) -> &[String]
 /// answers the code that it ends with.
 ///
 /// Every word behind the name is handed to [`run`], and the code is that of the run's status.
-pub fn program<F: Folder, O: Sink, N: Sink, P: Predicates>(
+pub fn program<
+    F: Folder,
+    O: Sink,
+    N: Sink,
+    P: Predicates + Sync,
+    G: Gate,
+    R: Threads + Wait + Sync,
+>(
+    rt: &R,
     alloc: Global,
     words: &[String],
     folder: &mut F,
     out: &mut O,
     notes: &mut N,
     functions: &P,
+    gate: &G,
 ) -> ExitCode
     ensures usage { asked (drop 1 (map string_bytes words.now)) ≡ None
         → (exit_status result ≡ 2) ⊎ (exit_status result ≡ 9) }
@@ -91,7 +103,16 @@ pub fn program<F: Folder, O: Sink, N: Sink, P: Predicates>(
         (sink_seen (O.written out.new) (O.faults out.new)) (sink_seen (N.written notes.old) (N.faults notes.old))
         (sink_seen (N.written notes.new) (N.faults notes.new)) s }
 {
-    code_for(run(alloc, behind_name(words), folder, out, notes, functions))
+    code_for(run(
+        rt,
+        alloc,
+        behind_name(words),
+        folder,
+        out,
+        notes,
+        functions,
+        gate,
+    ))
 }
 
 #[cfg(test)]

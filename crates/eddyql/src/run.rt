@@ -29,12 +29,15 @@ use crate::asking::{Request, asked};
 use crate::noting::put_note;
 use crate::planning::plan_for;
 use command_line::Task;
+use eddy_worker::Gate;
 use outside::{Folder, Sink};
 use run_answers::{Stop, put_answers, put_summary};
 use run_plan::{Plan, Status};
 use sq_expr::Block;
 use sq_value::{Predicates, Tables};
 use std::alloc::Global;
+use std::sync::Wait;
+use std::thread::Threads;
 
 // How a run ended but for its note: by a status, or by a fault of the notes, to which nothing more is
 // put.
@@ -45,7 +48,8 @@ pub enum End {
 }
 
 // Runs blocks, and puts their answers, or the demo's summary, and their lines of counts.
-fn put_task<O: Sink, N: Sink, P: Predicates>(
+fn put_task<O: Sink, N: Sink, P: Predicates + Sync, G: Gate, R: Threads + Wait + Sync>(
+    rt: &R,
     alloc: Global,
     request: &Request,
     blocks: &[Block],
@@ -53,6 +57,7 @@ fn put_task<O: Sink, N: Sink, P: Predicates>(
     functions: &P,
     out: &mut O,
     notes: &mut N,
+    gate: &G,
 ) -> Result<(), Stop>
     requires fit { All (IsFit (P.kinds_of functions.now) tables.now) blocks.now }
     requires reachable { All IsReachable blocks.now }
@@ -65,21 +70,27 @@ fn put_task<O: Sink, N: Sink, P: Predicates>(
 {
     let settings = &request.settings;
     match &request.task {
-        Task::Query(_) => put_answers(alloc, blocks, tables, settings, functions, out, notes),
+        Task::Query(_) => put_answers(
+            rt, alloc, blocks, tables, settings, functions, out, notes, gate,
+        ),
         Task::Demo { rows: _ } => {
-            put_summary(alloc, blocks, tables, settings, functions, out, notes)
+            put_summary(
+                rt, alloc, blocks, tables, settings, functions, out, notes, gate,
+            )
         }
     }
 }
 
 // Runs a plan, writes its answers, and puts its lines of counts.
-fn run_plan<O: Sink, N: Sink, P: Predicates>(
+fn run_plan<O: Sink, N: Sink, P: Predicates + Sync, G: Gate, R: Threads + Wait + Sync>(
+    rt: &R,
     alloc: Global,
     plan: &Plan,
     request: &Request,
     functions: &P,
     out: &mut O,
     notes: &mut N,
+    gate: &G,
 ) -> End
     requires fit { All (IsFit (P.kinds_of functions.now) plan.now.catalogue.tables) plan.now.blocks }
     requires reachable { All IsReachable plan.now.blocks }
@@ -96,7 +107,9 @@ fn run_plan<O: Sink, N: Sink, P: Predicates>(
 {
     let blocks = plan.blocks.as_slice();
     let tables = plan.catalogue.tables();
-    match put_task(alloc, request, blocks, tables, functions, out, notes) {
+    match put_task(
+        rt, alloc, request, blocks, tables, functions, out, notes, gate,
+    ) {
         Ok(()) => End::By(Status::Done),
         Err(Stop::Output) => End::By(Status::Write),
         Err(Stop::Notes) => End::ByNotes,
@@ -105,13 +118,15 @@ fn run_plan<O: Sink, N: Sink, P: Predicates>(
 }
 
 // Runs what the words ask for.
-fn run_query<F: Folder, O: Sink, N: Sink, P: Predicates>(
+fn run_query<F: Folder, O: Sink, N: Sink, P: Predicates + Sync, G: Gate, R: Threads + Wait + Sync>(
+    rt: &R,
     alloc: Global,
     request: &Request,
     folder: &mut F,
     out: &mut O,
     notes: &mut N,
     functions: &P,
+    gate: &G,
 ) -> End
     requires task { IsTask request.now.task }
     requires settings { AreSettings request.now.settings }
@@ -128,19 +143,21 @@ fn run_query<F: Folder, O: Sink, N: Sink, P: Predicates>(
         (sink_seen (N.written notes.new) (N.faults notes.new)) result }
 {
     match plan_for(alloc, request, folder, functions) {
-        Ok(plan) => run_plan(alloc, &plan, request, functions, out, notes),
+        Ok(plan) => run_plan(rt, alloc, &plan, request, functions, out, notes, gate),
         Err(refusal) => End::By(refusal),
     }
 }
 
 // Runs what the words ask for, and says on the notes why it was refused.
-fn run_noted<F: Folder, O: Sink, N: Sink, P: Predicates>(
+fn run_noted<F: Folder, O: Sink, N: Sink, P: Predicates + Sync, G: Gate, R: Threads + Wait + Sync>(
+    rt: &R,
     alloc: Global,
     request: &Request,
     folder: &mut F,
     out: &mut O,
     notes: &mut N,
     functions: &P,
+    gate: &G,
 ) -> Status
     requires task { IsTask request.now.task }
     requires settings { AreSettings request.now.settings }
@@ -151,20 +168,22 @@ fn run_noted<F: Folder, O: Sink, N: Sink, P: Predicates>(
         (sink_seen (O.written out.new) (O.faults out.new)) (sink_seen (N.written notes.old) (N.faults notes.old))
         (sink_seen (N.written notes.new) (N.faults notes.new)) result }
 {
-    match run_query(alloc, request, folder, out, notes, functions) {
+    match run_query(rt, alloc, request, folder, out, notes, functions, gate) {
         End::By(status) => put_note(alloc, request.tables(), status, notes),
         End::ByNotes => Status::Write,
     }
 }
 
 // Runs the words.
-fn run_words<F: Folder, O: Sink, N: Sink, P: Predicates>(
+fn run_words<F: Folder, O: Sink, N: Sink, P: Predicates + Sync, G: Gate, R: Threads + Wait + Sync>(
+    rt: &R,
     alloc: Global,
     words: &[String],
     folder: &mut F,
     out: &mut O,
     notes: &mut N,
     functions: &P,
+    gate: &G,
 ) -> Status
     ensures finished { let p = predicates (P.number_of functions.now) (P.kinds_of functions.now) P.gives in
         Finished p (map string_bytes words.now) (folder_seen (F.holds folder.old) (F.faults folder.old))
@@ -174,7 +193,7 @@ fn run_words<F: Folder, O: Sink, N: Sink, P: Predicates>(
     ensures untouched { asking.asked (map string_bytes words.now) ≡ None → folder.new ≡ folder.old }
 {
     match asked(alloc, words) {
-        Ok(request) => run_noted(alloc, &request, folder, out, notes, functions),
+        Ok(request) => run_noted(rt, alloc, &request, folder, out, notes, functions, gate),
         Err(refusal) => put_note(alloc, &[], refusal, notes),
     }
 }
@@ -192,13 +211,18 @@ fn run_words<F: Folder, O: Sink, N: Sink, P: Predicates>(
 ///
 /// With `--tally` a line of counts is put to `notes` behind each answer. A fault there ends the run as `Write`,
 /// and nothing is put behind it.
-pub fn run<F: Folder, O: Sink, N: Sink, P: Predicates>(
+///
+/// Where the words ask for several workers, each runs in a thread of its own, waits for turns, and calls the gate
+/// in them. With one worker no thread starts, no turn is waited for, and the gate isn't called.
+pub fn run<F: Folder, O: Sink, N: Sink, P: Predicates + Sync, G: Gate, R: Threads + Wait + Sync>(
+    rt: &R,
     alloc: Global,
     words: &[String],
     folder: &mut F,
     out: &mut O,
     notes: &mut N,
     functions: &P,
+    gate: &G,
 ) -> Status
     ensures keeps { F.holds folder.new ≡ F.holds folder.old }
     ensures folder_counts { NeverFalls (F.faults folder.old) (F.faults folder.new) }
@@ -284,7 +308,7 @@ pub fn run<F: Folder, O: Sink, N: Sink, P: Predicates>(
         (sink_seen (O.written out.new) (O.faults out.new)) (sink_seen (N.written notes.old) (N.faults notes.old))
         (sink_seen (N.written notes.new) (N.faults notes.new)) result }
 {
-    run_words(alloc, words, folder, out, notes, functions)
+    run_words(rt, alloc, words, folder, out, notes, functions, gate)
 }
 
 /// The law that words over files have one outcome, whatever the predicates. It does nothing.

@@ -21,6 +21,7 @@ ghost use Rattle.eddyql.specs.Shipped.{shipped_predicates};
 
 use crate::noting::put_note;
 use crate::program::{code_for, program};
+use eddy_worker::Gate;
 use fn_registry::{
     AddFault, Functions, Registered, SHIPPED, ShippedFunctions, Stored, divides, near10, same_sign,
 };
@@ -29,6 +30,8 @@ use run_plan::Status;
 use sq_value::{ColType, Kinds, Memory, SqText, Value};
 use std::alloc::Global;
 use std::process::ExitCode;
+use std::sync::Wait;
+use std::thread::Threads;
 
 /// Both arguments are integers.
 const INTEGERS: Kinds = Kinds {
@@ -51,12 +54,14 @@ fn put<const M: u32>(functions: &mut Functions<M>, item: Registered<M>) -> Resul
 
 // Registers the predicates, and runs the words over them.
 #[tactic(auto, unfolding(fn_registry::specs::Meaning::gives_of))]
-fn run_shipped<F: Folder, O: Sink, N: Sink>(
+fn run_shipped<F: Folder, O: Sink, N: Sink, G: Gate, R: Threads + Wait + Sync>(
+    rt: &R,
     alloc: Global,
     words: &[String],
     folder: &mut F,
     out: &mut O,
     notes: &mut N,
+    gate: &G,
 ) -> Result<ExitCode, Memory>
     ensures usage { asked (drop 1 (map string_bytes words.now)) ≡ None
         → IfOk result (λ code. (exit_status code ≡ 2) ⊎ (exit_status code ≡ 9)) }
@@ -88,18 +93,20 @@ fn run_shipped<F: Folder, O: Sink, N: Sink>(
     let name = SqText::of(alloc, "near10")?;
     put(&mut functions, Registered::new(name, 2, INTEGERS, answer))?;
     let functions = ShippedFunctions(functions);
-    Ok(program(alloc, words, folder, out, notes, &functions))
+    Ok(program(rt, alloc, words, folder, out, notes, &functions, gate))
 }
 
 /// Runs the words that the program was started with over the shipped predicates, and answers the
 /// code that it ends with: that of [`program`], or, where there is no memory for the predicates,
 /// that of want of memory, with its note.
-pub fn program_as_shipped<F: Folder, O: Sink, N: Sink>(
+pub fn program_as_shipped<F: Folder, O: Sink, N: Sink, G: Gate, R: Threads + Wait + Sync>(
+    rt: &R,
     alloc: Global,
     words: &[String],
     folder: &mut F,
     out: &mut O,
     notes: &mut N,
+    gate: &G,
 ) -> ExitCode
     ensures usage { asked (drop 1 (map string_bytes words.now)) ≡ None
         → (exit_status result ≡ 2) ⊎ (exit_status result ≡ 9) }
@@ -119,7 +126,7 @@ pub fn program_as_shipped<F: Folder, O: Sink, N: Sink>(
         (sink_seen (O.written out.new) (O.faults out.new)) (sink_seen (N.written notes.old) (N.faults notes.old))
         (sink_seen (N.written notes.new) (N.faults notes.new)) s }
 {
-    match run_shipped(alloc, words, folder, out, notes) {
+    match run_shipped(rt, alloc, words, folder, out, notes, gate) {
         Ok(code) => code,
         Err(Memory) => code_for(put_note(alloc, &[], Status::Memory, notes)),
     }

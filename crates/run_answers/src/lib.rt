@@ -4,6 +4,7 @@
 
 mod answering;
 mod counting;
+mod finding;
 mod settings;
 mod stopping;
 mod tallying;

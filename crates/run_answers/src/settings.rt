@@ -1,16 +1,19 @@
-//! How statements are run: under the policy that the words name.
+//! How statements are run: by so many workers, each under the policy that the words name.
 
-ghost use Rattle.std.specs.Prelude.{◌≡◌};
+ghost use Rattle.std.specs.Prelude.{◌≡◌, IfOk, map};
+ghost use Rattle.std.specs.List.{range_with_len};
 ghost use Rattle.run_answers.specs.Settings.{AreSettings, fresh_of};
 
 use command_line::PolicyName;
 use route_policy::{AnyPolicy, Lottery, Pressure, RouteScript};
-use sq_value::SqText;
+use sq_value::{Memory, SqText};
+use std::alloc::Global;
 
-/// The policy's name, the seed of the lottery, the text of the route script, and whether a line of
-/// counts is wanted for each statement.
+/// The number of workers, 1 to 16, the policy's name, the seed of the lottery, the text of the route
+/// script, and whether a line of counts is wanted for each statement.
 #[derive(Debug, Drop)]
 pub struct Settings {
+    pub workers: u32,
     pub policy: PolicyName,
     pub seed: u64,
     pub route: SqText,
@@ -18,17 +21,37 @@ pub struct Settings {
 }
 
 impl Settings {
-    /// The policy as it is before its first choice. Each statement has one of its own.
-    pub fn fresh_policy(&self) -> AnyPolicy
+    /// The policy of the worker with this number, as it is before its first choice. Each worker has one
+    /// of its own for each statement. The seed of its lottery is the given one and the worker's number,
+    /// added in 64 bits.
+    pub fn fresh_policy(&self, worker: u32) -> AnyPolicy
         requires { AreSettings self.now }
-        ensures { result ≡ fresh_of self.now }
+        ensures { result ≡ fresh_of self.now worker }
     {
         match self.policy {
-            PolicyName::Lottery => AnyPolicy::Lottery(Lottery::new(self.seed)),
+            PolicyName::Lottery => {
+                AnyPolicy::Lottery(Lottery::new(self.seed.wrapping_add(u64::from(worker))))
+            }
             PolicyName::Pressure => AnyPolicy::Pressure(Pressure::new()),
             PolicyName::Script => {
                 AnyPolicy::Script(RouteScript::read(self.route.as_str()).unwrap())
             }
         }
+    }
+
+    /// The policies of all workers, in the order of their numbers, each before its first choice.
+    ///
+    /// # Errors
+    /// There is no memory for their list.
+    pub fn fresh_policies(&self, alloc: Global) -> Result<Vec<AnyPolicy>, Memory>
+        requires { AreSettings self.now }
+        ensures { IfOk result (λ policies. policies.items
+            ≡ map (fresh_of self.now) (range_with_len 0 self.now.workers)) }
+    {
+        let mut policies = Vec::new(alloc);
+        for worker in 0..self.workers {
+            policies.push(self.fresh_policy(worker))?;
+        }
+        Ok(policies)
     }
 }

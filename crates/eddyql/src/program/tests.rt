@@ -2,6 +2,7 @@
 //! which a bound on memory or depth would show.
 
 use super::*;
+use eddy_worker::NoGate;
 use outside::{MemoryFolder, MemorySink};
 use sq_value::NoPredicates;
 use std::test::Fail;
@@ -80,12 +81,14 @@ fn ends_with_codes(rt: HostRuntime) -> Result<(), Fail> {
         out.fail_at(u64::from(number_of(fields.next().unwrap_or(""))), 0)?;
         let mut notes = MemorySink::with_room(rt.alloc(), 99)?;
         let code = program(
+            &rt,
             rt.alloc(),
             &words,
             &mut folder,
             &mut out,
             &mut notes,
             &NoPredicates,
+            &NoGate,
         );
         assert!(rt; code == ExitCode::from(number_of(fields.next().unwrap_or(""))));
     }
@@ -93,7 +96,8 @@ fn ends_with_codes(rt: HostRuntime) -> Result<(), Fail> {
 }
 
 // How many bytes a run over these files writes, where it ends with this code.
-fn written_by(
+fn written_by<R: Threads + Wait + Sync>(
+    rt: &R,
     alloc: Global,
     texts: &str,
     script: &[u8],
@@ -105,12 +109,14 @@ fn written_by(
     let mut out = MemorySink::with_room(alloc, 99999)?;
     let mut notes = MemorySink::with_room(alloc, 99)?;
     let ended = program(
+        rt,
         alloc,
         &words,
         &mut folder,
         &mut out,
         &mut notes,
         &NoPredicates,
+        &NoGate,
     );
     if ended == ExitCode::from(code) {
         Ok(out.written().len())
@@ -126,19 +132,22 @@ fn written_by(
 fn of_a_size(rt: HostRuntime) -> Result<(), Fail> {
     let alloc = rt.alloc();
     let long = repeated(alloc, b"c\n", 5000, b"1\n")?;
-    assert_eq!(rt; written_by(alloc, "q t=1 u=2", QUERY, &long, 0)?, 20004);
+    assert_eq!(rt;
+        written_by(&rt, alloc, "q t=1 u=2", QUERY, &long, 0)?,
+        20004
+    );
     let mut wide = repeated(alloc, b"c", 63, b",")?;
     wide.extend_from_slice(repeated(alloc, b"\n1", 63, b",1")?.as_slice())?;
     let statements = repeated(alloc, b"SELECT c FROM t", 63, b";SELECT c FROM t")?;
     let sixteen = "q a=1 b=1 c=1 d=1 e=1 f=1 g=1 h=1 i=1 j=1 k=1 l=1 m=1 n=1 t=1 u=1";
     assert_eq!(rt;
-        written_by(alloc, sixteen, &statements, &wide, 0)?,
+        written_by(&rt, alloc, sixteen, &statements, &wide, 0)?,
         64 * 4 + 63
     );
     let mut nested = repeated(alloc, b"SELECT c FROM t WHERE ", 47, b"c = 1 AND ")?;
     nested.extend_from_slice(repeated(alloc, b"", 64, b"(")?.as_slice())?;
     nested.extend_from_slice(repeated(alloc, b"c = 1", 64, b")")?.as_slice())?;
-    assert_eq!(rt; written_by(alloc, "q t=1", &nested, b"c\n1\n", 0)?, 4);
+    assert_eq!(rt; written_by(&rt, alloc, "q t=1", &nested, b"c\n1\n", 0)?, 4);
     Ok(())
 }
 
@@ -146,12 +155,12 @@ fn of_a_size(rt: HostRuntime) -> Result<(), Fail> {
 #[test]
 fn fronts_of_a_script(rt: HostRuntime) -> Result<(), Fail> {
     let texts = "q people=people orders=orders";
-    assert_eq!(rt; written_by(rt.alloc(), texts, SPENDERS, b"", 0)?, 24);
+    assert_eq!(rt; written_by(&rt, rt.alloc(), texts, SPENDERS, b"", 0)?, 24);
     for end in 0..SPENDERS.len() {
         let front = &SPENDERS[..end];
-        let refused = written_by(rt.alloc(), texts, front, b"", 3)?;
+        let refused = written_by(&rt, rt.alloc(), texts, front, b"", 3)?;
         if refused == usize::MAX {
-            assert!(rt; written_by(rt.alloc(), texts, front, b"", 0)? != usize::MAX);
+            assert!(rt; written_by(&rt, rt.alloc(), texts, front, b"", 0)? != usize::MAX);
         } else {
             assert_eq!(rt; refused, 0);
         }

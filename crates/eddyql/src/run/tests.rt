@@ -6,11 +6,14 @@
 //! begin with `!` stand as they are.
 
 use super::run;
+use eddy_worker::NoGate;
 use outside::{Folder, MemoryFolder, MemorySink, SureFolder, SureSink};
 use run_plan::Status;
 use sq_value::NoPredicates;
 use std::alloc::Global;
+use std::sync::Wait;
 use std::test::Fail;
+use std::thread::Threads;
 
 // The files, each its name and its text. A `^` stands for a carriage return, and a `~` for a byte that
 // is no character.
@@ -117,6 +120,8 @@ const LOOKED_UP: &str = "\
     a,7/Bob,5/ | \n\
 ! --lookup ord.cid --tally q cust=cust ord=ord | SELECT name, amt FROM cust c, ord o WHERE c.id = o.cid |  | 0 Done \
     | name,amt/Ada,5/Ada,7/Bob,5/ | query 1: built 3,3 hops 3 looked 3/\n\
+! --lookup ord.cid --tally --workers 4 q cust=cust ord=ord | SELECT name, amt FROM cust c, ord o WHERE c.id = o.cid |  \
+    | 0 Done | name,amt/Ada,5/Ada,7/Bob,5/ | query 1: built 3,3 hops 3 looked 3/\n\
 ";
 
 // The demo, whose summary tells the number of rows of each answer.
@@ -139,7 +144,7 @@ const REFUSED: &str = "\
 ! |  |  | 2 Usage |  | usage: eddyql [OPTIONS] SCRIPT NAME=FILE.. or eddyql [OPTIONS] --demo ROWS/\n\
 ! --workers 0 q n=n | SELECT x FROM n |  | 2 Usage |  | usage: eddyql [OPTIONS] SCRIPT NAME=FILE.. or eddyql [OPTI\
     ONS] --demo ROWS/\n\
-! --workers 2 q n=n | SELECT x FROM n |  | 2 Usage |  | usage: eddyql [OPTIONS] SCRIPT NAME=FILE.. or eddyql [OPTI\
+! --workers 17 q n=n | SELECT x FROM n |  | 2 Usage |  | usage: eddyql [OPTIONS] SCRIPT NAME=FILE.. or eddyql [OPTI\
     ONS] --demo ROWS/\n\
 ! --demo 0 |  |  | 2 Usage |  | usage: eddyql [OPTIONS] SCRIPT NAME=FILE.. or eddyql [OPTIONS] --demo ROWS/\n\
 ! q n=n N=n | SELECT x FROM n |  | 2 Usage |  | usage: eddyql [OPTIONS] SCRIPT NAME=FILE.. or eddyql [OPTIONS] --d\
@@ -310,7 +315,7 @@ fn sink_of(alloc: Global, fault: &str) -> Result<MemorySink, Fail> {
 }
 
 // How a run ends, and what is written and noted.
-fn told(alloc: Global, case: Case<'_>) -> Result<bool, Fail> {
+fn told<R: Threads + Wait + Sync>(rt: &R, alloc: Global, case: Case<'_>) -> Result<bool, Fail> {
     let words = words_of(alloc, case.words)?;
     let script = bytes_of(alloc, case.script)?;
     let mut folder = folder_of(alloc, script.as_slice())?;
@@ -320,12 +325,14 @@ fn told(alloc: Global, case: Case<'_>) -> Result<bool, Fail> {
     let mut out = sink_of(alloc, case.fault)?;
     let mut notes = MemorySink::with_room(alloc, number(case.fault, "note", 0).unwrap_or(999))?;
     let status = run(
+        rt,
         alloc,
         &words,
         &mut folder,
         &mut out,
         &mut notes,
         &NoPredicates,
+        &NoGate,
     );
     let told = format!(in alloc; "{} {status:?}", status.code())?;
     let written = bytes_of(alloc, case.written)?;
@@ -341,7 +348,7 @@ fn told(alloc: Global, case: Case<'_>) -> Result<bool, Fail> {
 fn runs_end_as_they_must(rt: HostRuntime) -> Result<(), Fail> {
     for cases in [DONE, TALLIED, REFUSED, LOOKED_UP, DEMO] {
         for line in cases.lines() {
-            if !told(rt.alloc(), case_of(line))? {
+            if !told(&rt, rt.alloc(), case_of(line))? {
                 assert_eq!(rt; line, "");
             }
         }
@@ -351,7 +358,8 @@ fn runs_end_as_they_must(rt: HostRuntime) -> Result<(), Fail> {
 }
 
 // Whether a run ends so, with this note, and writes nothing but where it is done.
-fn ended_in<F: Folder>(
+fn ended_in<F: Folder, R: Threads + Wait + Sync>(
+    rt: &R,
     alloc: Global,
     texts: &str,
     folder: &mut F,
@@ -361,7 +369,16 @@ fn ended_in<F: Folder>(
     let words = words_of(alloc, texts)?;
     let mut out = MemorySink::with_room(alloc, 99)?;
     let mut notes = MemorySink::with_room(alloc, 99)?;
-    let status = run(alloc, &words, folder, &mut out, &mut notes, &NoPredicates);
+    let status = run(
+        rt,
+        alloc,
+        &words,
+        folder,
+        &mut out,
+        &mut notes,
+        &NoPredicates,
+        &NoGate,
+    );
     let said = format!(in alloc; "{status:?}")?;
     Ok(
         said.as_str() == told
@@ -371,9 +388,16 @@ fn ended_in<F: Folder>(
 }
 
 // The same of a script over the files.
-fn ended(alloc: Global, texts: &str, script: &[u8], told: &str, note: &str) -> Result<bool, Fail> {
+fn ended<R: Threads + Wait + Sync>(
+    rt: &R,
+    alloc: Global,
+    texts: &str,
+    script: &[u8],
+    told: &str,
+    note: &str,
+) -> Result<bool, Fail> {
     let mut folder = folder_of(alloc, script)?;
-    ended_in(alloc, texts, &mut folder, told, note)
+    ended_in(rt, alloc, texts, &mut folder, told, note)
 }
 
 // A script of 200 kB before its words, as comment lines or as blanks, or in a text of its condition.
@@ -391,9 +415,9 @@ fn long_scripts(rt: HostRuntime) -> Result<(), Fail> {
     text.extend_from_slice(b"SELECT v FROM v WHERE v < '")?;
     text.extend_from_slice(&vec![in alloc; b'w'; 200_000]?)?;
     text.extend_from_slice(b"'")?;
-    assert!(rt; ended(alloc, "n", &comments, "Done", "")?);
-    assert!(rt; ended(alloc, "n", &blanks, "Done", "")?);
-    assert!(rt; ended(alloc, "v", &text, "Done", "")?);
+    assert!(rt; ended(&rt, alloc, "n", &comments, "Done", "")?);
+    assert!(rt; ended(&rt, alloc, "n", &blanks, "Done", "")?);
+    assert!(rt; ended(&rt, alloc, "v", &text, "Done", "")?);
     Ok(())
 }
 
@@ -406,12 +430,14 @@ fn as_people_write_it(rt: HostRuntime) -> Result<(), Fail> {
     let mut out = SureSink::with_room(alloc, 99)?;
     let mut notes = SureSink::with_room(alloc, 99)?;
     let status = run(
+        &rt,
         alloc,
         &words,
         &mut folder,
         &mut out,
         &mut notes,
         &NoPredicates,
+        &NoGate,
     );
     assert_eq!(rt; status, Status::Done);
     assert!(rt; out.written() == b"who,total\n\"Ng, Ada\",120\n".as_slice());
@@ -430,12 +456,14 @@ fn sure_folder_and_sink(rt: HostRuntime) -> Result<(), Fail> {
     let mut out = SureSink::with_room(alloc, 3)?;
     let mut notes = SureSink::with_room(alloc, 99)?;
     let status = run(
+        &rt,
         alloc,
         &words,
         &mut folder,
         &mut out,
         &mut notes,
         &NoPredicates,
+        &NoGate,
     );
     assert_eq!(rt; status, Status::Done);
     assert!(rt; out.written() == b"x\n1".as_slice());
@@ -443,3 +471,4 @@ fn sure_folder_and_sink(rt: HostRuntime) -> Result<(), Fail> {
 }
 
 mod limits;
+mod workers;

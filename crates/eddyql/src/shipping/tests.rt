@@ -1,6 +1,7 @@
 //! Scripts that call the shipped predicates, over memory. What is expected was worked out by hand.
 
 use super::*;
+use eddy_worker::NoGate;
 use outside::{MemoryFolder, MemorySink};
 use std::test::Fail;
 
@@ -41,15 +42,39 @@ fn folder_of(alloc: Global, script: &str) -> Result<MemoryFolder, Fail> {
 }
 
 // Whether a script ends with this code, having written, or else noted, this text.
-fn ends_so(alloc: Global, script: &str, code: &str, told: &str) -> Result<bool, Fail> {
+fn ends_so<R: Threads + Wait + Sync>(
+    rt: &R,
+    alloc: Global,
+    workers: &str,
+    script: &str,
+    code: &str,
+    told: &str,
+) -> Result<bool, Fail> {
     let mut words = Vec::new(alloc);
-    for word in ["eddyql", "q", "n=n", "cust=cust", "ord=ord", "ends=ends"] {
+    for word in [
+        "eddyql",
+        "--workers",
+        workers,
+        "q",
+        "n=n",
+        "cust=cust",
+        "ord=ord",
+        "ends=ends",
+    ] {
         words.push(String::from_str(alloc, word)?)?;
     }
     let mut folder = folder_of(alloc, script)?;
     let mut out = MemorySink::with_room(alloc, 999)?;
     let mut notes = MemorySink::with_room(alloc, 999)?;
-    let ended = program_as_shipped(alloc, &words, &mut folder, &mut out, &mut notes);
+    let ended = program_as_shipped(
+        rt,
+        alloc,
+        &words,
+        &mut folder,
+        &mut out,
+        &mut notes,
+        &NoGate,
+    );
     let told = told.replace(alloc, "/", "\n")?;
     let (said, silent) = if code == "0" {
         (&out, &notes)
@@ -69,8 +94,11 @@ fn calls_in_scripts(rt: HostRuntime) -> Result<(), Fail> {
         let mut fields = case.split('|');
         let script = fields.next().unwrap_or("");
         let code = fields.next().unwrap_or("");
-        if !ends_so(rt.alloc(), script, code, fields.next().unwrap_or(""))? {
-            assert_eq!(rt; case, "");
+        let told = fields.next().unwrap_or("");
+        for workers in ["1", "3"] {
+            if !ends_so(&rt, rt.alloc(), workers, script, code, told)? {
+                assert_eq!(rt; case, workers);
+            }
         }
     }
     Ok(())

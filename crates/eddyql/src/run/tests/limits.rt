@@ -12,22 +12,40 @@ fn at_limits(rt: HostRuntime) -> Result<(), Fail> {
     let alloc = rt.alloc();
     let long = vec![in alloc; b' '; 67_108_865]?;
     let of_script = "Limit { of: File { file: Script } }";
-    assert!(rt; ended(alloc, "n", &long, of_script, "limit: file of script\n")?);
+    assert!(rt; ended(&rt, alloc, "n", &long, of_script, "limit: file of script\n")?);
     let mut text = Vec::new(alloc);
     for _ in 0..65 {
         text.extend_from_slice(b"SELECT x FROM n;")?;
     }
     let many = "Limit { of: Parse { fault: TooManyStatements { at: 1024 } } }";
-    assert!(rt; ended(alloc, "n", &text, many, "limit: statements at byte 1024\n")?);
+    assert!(rt;
+        ended(
+            &rt,
+            alloc,
+            "n",
+            &text,
+            many,
+            "limit: statements at byte 1024\n"
+        )?
+    );
     let mut text = Vec::new(alloc);
     text.extend_from_slice(b"SELECT x FROM n WHERE x=1")?;
     for _ in 0..47 {
         text.extend_from_slice(b" AND x=1")?;
     }
-    assert!(rt; ended(alloc, "n", &text, "Done", "")?);
+    assert!(rt; ended(&rt, alloc, "n", &text, "Done", "")?);
     text.extend_from_slice(b" AND x=1")?;
     let many = "Limit { of: Bind { statement: 1, fault: TooManyConjuncts { at: 406 } } }";
-    assert!(rt; ended(alloc, "n", &text, many, "limit: conjuncts at byte 406\n")?);
+    assert!(rt;
+        ended(
+            &rt,
+            alloc,
+            "n",
+            &text,
+            many,
+            "limit: conjuncts at byte 406\n"
+        )?
+    );
     Ok(())
 }
 
@@ -54,6 +72,7 @@ fn tables_at_limits(rt: HostRuntime) -> Result<(), Fail> {
     let of_file = "Limit { of: File { file: Table(1) } }";
     assert!(rt;
         ended_in(
+            &rt,
             alloc,
             "n long",
             &mut folder,
@@ -65,6 +84,7 @@ fn tables_at_limits(rt: HostRuntime) -> Result<(), Fail> {
     let of_rows = "Limit { of: Table { table: 1, fault: TooManyRows } }";
     assert!(rt;
         ended_in(
+            &rt,
             alloc,
             "n many",
             &mut folder,
@@ -93,6 +113,15 @@ impl Folder for NoRoom {
 
 #[test]
 fn out_of_memory(rt: HostRuntime) -> Result<(), Fail> {
-    assert!(rt; ended_in(rt.alloc(), "n", &mut NoRoom, "Memory", "out of memory\n")?);
+    assert!(rt;
+        ended_in(
+            &rt,
+            rt.alloc(),
+            "n",
+            &mut NoRoom,
+            "Memory",
+            "out of memory\n"
+        )?
+    );
     Ok(())
 }

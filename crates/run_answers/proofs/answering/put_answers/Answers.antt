@@ -11,20 +11,20 @@ pub returns-in_default : goal.returns-in_default
 returns-in_default g c = answers_none c.args.settings.now.tally g.P.Predicates.gives c.args.tables.now c.args.blocks.now _ _ c.in_default.ensures.cases
 
 pub put_answer-requires-clause-fits : goal.put_answer-requires-clause-fits
-put_answer-requires-clause-fits g c =
+put_answer-requires-clause-fits g c κs within =
     All-head (IsFit (g.P.Predicates.kinds_of c.args.functions.now) c.args.tables.now) c.in-Some.first.now c.in-Some.more.now
     (subst (λ (bs : List Block). All (IsFit (g.P.Predicates.kinds_of c.args.functions.now) c.args.tables.now) bs) c.in-Some.ensures.cases.0 c.requires.fit)
 
 pub put_answer-requires-clause-reachable : goal.put_answer-requires-clause-reachable
-put_answer-requires-clause-reachable g c =
+put_answer-requires-clause-reachable g c κs within =
     All-head IsReachable c.in-Some.first.now c.in-Some.more.now (subst (λ (bs : List Block). All IsReachable bs) c.in-Some.ensures.cases.0 c.requires.reachable)
 
 pub put_more-requires-clause-reachable : goal.put_more-requires-clause-reachable
-put_more-requires-clause-reachable g c =
+put_more-requires-clause-reachable g c κs within =
     All-tail IsReachable c.in-Some.first.now c.in-Some.more.now (subst (λ (bs : List Block). All IsReachable bs) c.in-Some.ensures.cases.0 c.requires.reachable)
 
 pub put_more-requires-clause-fit : goal.put_more-requires-clause-fit
-put_more-requires-clause-fit g c =
+put_more-requires-clause-fit g c κs within =
     All-tail (IsFit (g.P.Predicates.kinds_of c.args.functions.now) c.args.tables.now) c.in-Some.first.now c.in-Some.more.now
     (subst (λ (bs : List Block). All (IsFit (g.P.Predicates.kinds_of c.args.functions.now) c.args.tables.now) bs) c.in-Some.ensures.cases.0 c.requires.fit)
 
