@@ -11,7 +11,7 @@ pub record IsPool {T : Type 0} (same_plan : T → T → Type 0) (stamp : T → �
   pub items_room : 256 ≤ vec_capacity p.items
   pub moves_room : vec_len p.moves + (2 * p.puts_left + vec_len p.items) ≤ vec_capacity p.moves
   pub counted : puts_in p.moves.items ≡ vec_len p.items + takes_in p.moves.items
-  pub plans : Each (λ v. same_plan v.item p.sample) p.moves.items
+  pub plans : Each (λ v. same_plan v.item p.sample.value) p.moves.items
   pub top : above p.greatest ≡ top_of stamp p.moves.items
   pub settled : IsPermutation (put_items p.moves.items) (taken_items p.moves.items ++ left_in p.moves.items)
   pub in_order : TakeTheLast [] p.moves.items

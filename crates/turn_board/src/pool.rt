@@ -49,7 +49,8 @@ pub enum PoolRefused {
 /// Each item of its moves has the plan of its sample, which is no move itself.
 #[derive(Drop)]
 pub struct Pool<T: Stamped + Copy> {
-    sample: T,
+    // Behind a box, so that a pool is moved in few bytes.
+    sample: Box<T>,
     moves: Vec<Move<T>>,
     // The items that were put and not taken, the last one last.
     items: Vec<T>,
@@ -65,7 +66,7 @@ impl<T: Stamped + Copy> Model for Pool<T> {
 
     ghost use Rattle.turn_board.specs.PoolFields.{IsPool};
 
-    ghost view = { λ p. record { sample = p.sample; moves = p.moves.items; puts_left = p.puts_left } };
+    ghost view = { λ p. record { sample = p.sample.value; moves = p.moves.items; puts_left = p.puts_left } };
 
     ghost invariant = { IsPool T.same_plan T.stamp };
 }
@@ -78,6 +79,7 @@ impl<T: Stamped + Copy> Pool<T> {
     pub fn new(alloc: Global, sample: T, puts: u32) -> Result<Pool<T>, AllocError>
         ensures { IfOk result (λ pool. pool ≡ record { sample = sample; moves = []; puts_left = puts }) }
     {
+        let sample = Box::new(alloc, sample)?;
         let moves = Vec::with_capacity(alloc, 2 * puts as usize)?;
         let items = Vec::with_capacity(alloc, ROOM)?;
         Ok(Pool {

@@ -8,8 +8,9 @@ use std::hint::spin_loop;
 use std::sync::Wait;
 use std::sync::atomic::Ordering;
 
-/// How often a seat looks again before it sleeps.
-const LOOKS: u32 = 100;
+/// How often a seat looks again before it sleeps: some tens of microseconds, since a turn is mostly over in less than one,
+/// and to sleep and be woken takes longer than that.
+const LOOKS: u32 = 1_000;
 
 impl<K: Kept, T: Stamped + Copy> Board<K, T> {
     // Waits until a turn is free, and answers its word.
