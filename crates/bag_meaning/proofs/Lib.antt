@@ -9,7 +9,6 @@ pub mod AnswerLemmas
 mod WorkedRows
 pub mod SpanLemmas
 pub mod NestedLemmas
-mod SampleLemmas
 pub mod AgreeLemmas
 pub mod DueLemmas
 pub mod InOrderLemmas

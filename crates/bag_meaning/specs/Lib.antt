@@ -3,4 +3,3 @@ pub mod Answer
 pub mod Credit
 pub mod Combination
 pub mod Nested
-pub mod Samples

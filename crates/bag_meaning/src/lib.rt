@@ -8,8 +8,6 @@
 mod combo;
 mod laws;
 mod nested;
-#[cfg(test)]
-mod tests;
 
 pub use combo::{Built, Combo};
 pub use laws::{answer_laws, bag_law, credit_law};

@@ -6,5 +6,4 @@ pub mod WeakerLemmas
 pub mod ReadyLemmas
 pub mod OccurLemmas
 pub mod ColumnLemmas
-pub mod SampleLemmas
 pub mod WorkedFits

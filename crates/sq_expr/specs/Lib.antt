@@ -2,5 +2,4 @@ pub mod Meaning
 pub mod Fits
 pub mod Plain
 pub mod Reading
-pub mod Samples
 pub mod Reach

@@ -9,8 +9,6 @@ mod cond;
 mod evaluation;
 mod operand;
 mod sum;
-#[cfg(test)]
-mod tests;
 
 pub use block::{Access, AliasUse, Block, Conjunct, OrderKey, OutCol};
 pub use cond::{Arg, Chosen, ColumnOf, Cond, Side, Term};

@@ -16,8 +16,6 @@ mod order;
 mod predicate;
 mod table;
 mod tables;
-#[cfg(test)]
-mod tests;
 mod text;
 mod value;
 

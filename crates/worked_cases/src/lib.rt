@@ -4,4 +4,10 @@
 #![tactic(auto)]
 
 #[cfg(test)]
+mod bags;
+#[cfg(test)]
+mod conditions;
+#[cfg(test)]
 mod scripts;
+#[cfg(test)]
+mod values;

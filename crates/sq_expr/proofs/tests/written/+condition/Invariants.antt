@@ -1,4 +1,0 @@
-use Rattle.sq_expr.proofs.tests.written.+condition.Given as goal
-
-abbrev pub decreases-condition : goal.decreases-condition
-decreases-condition l = l.depth

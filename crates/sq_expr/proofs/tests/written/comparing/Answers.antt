@@ -1,8 +1,0 @@
-use Rattle.sq_expr.specs.Fits.{FitsHere}
-use Rattle.sq_expr.specs.Samples.{IsSampleColumn, sample_kinds, class_named}
-use Rattle.sq_expr.proofs.FitLemmas.{made-Compare}
-use Rattle.sq_expr.proofs.tests.written.comparing.Goals as goal
-
-pub returns : goal.returns
-returns c =
-    made-Compare (FitsHere sample_kinds (IsSampleColumn c.args.tables.now)) _ _ _ (class_named c.args.how.1, (c.in_ok-left.ensures, c.in_ok-right.ensures))

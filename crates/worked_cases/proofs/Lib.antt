@@ -1,0 +1,2 @@
+mod BagLemmas
+mod ConditionLemmas

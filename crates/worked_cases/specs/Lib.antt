@@ -1,0 +1,2 @@
+pub mod SampleBlocks
+pub mod SampleConditions
