@@ -230,3 +230,73 @@ fn workers_meet(rt: HostRuntime) -> Result<(), Fail> {
     assert_eq!(rt; gate.second.load(Ordering::SeqCst), 1);
     Ok(())
 }
+
+// The numbers below 100 as a table's file.
+fn numbers_below_100(alloc: Global) -> Result<String, Fail> {
+    let mut text = String::from_str(alloc, "x\n")?;
+    for x in 0..100 {
+        text.push_str(format!(in alloc; "{x}\n")?.as_str())?;
+    }
+    Ok(text)
+}
+
+// Puts a record behind a text, once for each number that can be added to this one with a sum below 100.
+fn push_records_of(text: &mut String, record: &str, number: u32) -> Result<(), Fail> {
+    for _sum in number..100 {
+        text.push_str(record)?;
+    }
+    Ok(())
+}
+
+// The heading, and a record of the first of each two numbers whose sum is below 100: 5,050 records.
+fn sums_below_100(alloc: Global) -> Result<String, Fail> {
+    let mut text = String::from_str(alloc, "x\n")?;
+    for x in 0..100 {
+        let record = format!(in alloc; "{x}\n")?;
+        push_records_of(&mut text, record.as_str(), x)?;
+    }
+    Ok(text)
+}
+
+// Whether a run over the numbers below 100, which are the table `z`, by so many workers is done, writes
+// just this, and notes nothing.
+fn writes_of_numbers<R: Threads + Wait + Sync>(
+    rt: &R,
+    alloc: Global,
+    workers: u32,
+    script: &str,
+    written: &str,
+) -> Result<bool, Fail> {
+    let texts = format!(in alloc; "! --workers {workers} q z=z")?;
+    let words = words_of(alloc, texts.as_str())?;
+    let mut folder = MemoryFolder::new(alloc);
+    folder.keep("q", script.as_bytes())?;
+    folder.keep("z", numbers_below_100(alloc)?.as_bytes())?;
+    let mut out = MemorySink::with_room(alloc, 20_000)?;
+    let mut notes = MemorySink::with_room(alloc, 99)?;
+    let status = run(
+        rt,
+        alloc,
+        &words,
+        &mut folder,
+        &mut out,
+        &mut notes,
+        &NoPredicates,
+        &NoGate,
+    );
+    Ok(status == Status::Done && out.written() == written.as_bytes() && notes.written().is_empty())
+}
+
+// A join of three by a sum, of which tuples lie in the pool, writes the same by any number of workers.
+#[test]
+fn workers_write_all_sums(rt: HostRuntime) -> Result<(), Fail> {
+    let sums = sums_below_100(rt.alloc())?;
+    assert_eq!(rt; sums.as_str().lines().count(), 5051);
+    let script = "SELECT a.x FROM z a, z b, z c WHERE a.x + b.x = c.x";
+    for workers in [1, 2, 8] {
+        if !writes_of_numbers(&rt, rt.alloc(), workers, script, sums.as_str())? {
+            assert_eq!(rt; workers, 0);
+        }
+    }
+    Ok(())
+}
