@@ -1,9 +1,9 @@
-use Rattle.std.proofs.Common.{◌≡◌, ◌+◌, ◌-◌, ◌<◌, ◌≤◌, ℕ, length, slice_index, sym, ⊎_elim, subst, arith}
+use Rattle.std.proofs.Common.{◌≡◌, ◌⊎◌, inl, inr, refl, ◌+◌, ◌-◌, ◌<◌, ◌≤◌, ℕ, length, slice_index, sym, ⊎_elim, subst, arith}
 use Rattle.std.specs.Str.{IsUtf8, IsCharBoundary}
 use Rattle.std.proofs.lemmas.Str.{IsCharBoundary-end, IsCharBoundary-before_ascii, IsCharBoundary-after_ascii}
 use Rattle.sq_parse.specs.declared.form.Form.{Form}
 use Rattle.sq_parse.specs.declared.form.Form.TheVariants as form
-use Rattle.sq_parse.specs.Form.{Text, IsSeam, IsSeamed, IsCut}
+use Rattle.sq_parse.specs.Form.{Text, symbol, IsSeam, IsSeamed, IsCut}
 
 after : (z : Text) (n : ℕ) → IsUtf8 z → 1 ≤ n → n ≤ length z → slice_index z (n - 1) < 128 → IsCharBoundary z n
 after z n u low high small =
@@ -36,3 +36,8 @@ IsCut-from_seams form.Number z n u low high s = IsCharBoundary-from_seam z n u l
 IsCut-from_seams form.Text z n u low high s = inside z n u high s
 IsCut-from_seams form.Symbol z n u low high s = IsCharBoundary-from_seam z n u low high s
 IsCut-from_seams form.Bad z n u low high s = tt
+
+-- `<=` and `<>` are symbols of two bytes
+pub symbol_less : (next : ℕ) → (next ≡ 61) ⊎ ((next ≡ 61 → ⊥) × (next ≡ 62)) → ◌≡◌ {A = Form × ℕ} (form.Symbol, 2) (symbol 60 next)
+symbol_less next (inl e) = rw e refl
+symbol_less next (inr e) = rw e.1 refl

@@ -167,3 +167,9 @@ pub more_conjunctions-returns : goal.more_conjunctions-returns
 more_conjunctions-returns t c =
     let ends : is k.Or (next c.more.tokens) ≡ false = search rules in
     so_far_all (is k.Or) (after k.Or (read.conjunction_at shipped c.args.depth)) shrinking.no_or (shrinking.conjunction c.args.depth) _ _ _ _ c.more.invariant ends
+
+-- ---- test
+
+pub test-returns : goal.test-returns
+unfolding read.test_at read.truth_test read.primary_at read.truth
+test-returns t c = search rules

@@ -25,3 +25,6 @@ returns-in_default-clause-drawn c =
 
 pub returns-clause-drawn : goal.returns-clause-drawn
 returns-clause-drawn c = sym c.loop-text.invariant.1 ∙ pieces_none c.loop-text.at c.loop-text.text.now (search rules)
+
+pub returns-in-Bad-clause-within : goal.returns-in-Bad-clause-within
+returns-in-Bad-clause-within c = search rules
