@@ -8,8 +8,8 @@ use std::hint::spin_loop;
 use std::sync::Wait;
 use std::sync::atomic::Ordering;
 
-/// How often a seat looks again before it sleeps: some tens of microseconds, since a turn is mostly over in less than one,
-/// and to sleep and be woken takes longer than that.
+/// How often a seat looks again before it sleeps: for some tens of microseconds, since a turn is mostly over
+/// in less than one, and to sleep and be woken takes longer.
 const LOOKS: u32 = 1_000;
 
 impl<K: Kept, T: Stamped + Copy> Board<K, T> {
