@@ -19,6 +19,7 @@ mod pool_steps;
 mod pool_turns;
 mod seat;
 mod steps;
+mod stock;
 mod turns;
 mod view;
 mod waiting;

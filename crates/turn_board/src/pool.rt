@@ -1,8 +1,9 @@
 //! A pool of items that the seats share: the list of all its puts and takes.
 ghost use Rattle.std.specs.Prelude.{◌≡◌, ◌+◌, ◌-◌, ◌<◌, ◌≤◌, ◌++◌, ◌∷◌, ℕ, [], length, max, All, IfOk, IfErr, true, false};
 ghost use Rattle.std.specs.List.Sorted.{IsPermutation};
-ghost use Rattle.turn_board.specs.Pools.{above, left_in, put_items, puts_in, taken_items, takes_in, top_of, TakeTheLast};
+ghost use Rattle.turn_board.specs.Pools.{left_in, put_items, puts_in, taken_items, takes_in, top_of, TakeTheLast};
 
+use crate::stock::Stock;
 use std::alloc::{AllocError, Global};
 use std::marker::Model;
 
@@ -49,14 +50,9 @@ pub enum PoolRefused {
 /// Each item of its moves has the plan of its sample, which is no move itself.
 #[derive(Drop)]
 pub struct Pool<T: Stamped + Copy> {
-    // Behind a box, so that a pool is moved in few bytes.
-    sample: Box<T>,
-    moves: Vec<Move<T>>,
-    // The items that were put and not taken, the last one last.
-    items: Vec<T>,
-    puts_left: u32,
-    // The greatest stamp that was put.
-    greatest: Option<u64>,
+    // Behind a box, so that a slot of the board is short: whoever has a module writes all of its slot, and so less of
+    // what lies near the next module's.
+    stock: Box<Stock<T>>,
 }
 
 impl<T: Stamped + Copy> Model for Pool<T> {
@@ -64,11 +60,7 @@ impl<T: Stamped + Copy> Model for Pool<T> {
 
     ghost Value = { PoolState T };
 
-    ghost use Rattle.turn_board.specs.PoolFields.{IsPool};
-
-    ghost view = { λ p. record { sample = p.sample.value; moves = p.moves.items; puts_left = p.puts_left } };
-
-    ghost invariant = { IsPool T.same_plan T.stamp };
+    ghost view = { λ p. p.stock.value };
 }
 
 impl<T: Stamped + Copy> Pool<T> {
@@ -79,16 +71,9 @@ impl<T: Stamped + Copy> Pool<T> {
     pub fn new(alloc: Global, sample: T, puts: u32) -> Result<Pool<T>, AllocError>
         ensures { IfOk result (λ pool. pool ≡ record { sample = sample; moves = []; puts_left = puts }) }
     {
-        let sample = Box::new(alloc, sample)?;
-        let moves = Vec::with_capacity(alloc, 2 * puts as usize)?;
-        let items = Vec::with_capacity(alloc, ROOM)?;
-        Ok(Pool {
-            sample,
-            moves,
-            items,
-            puts_left: puts,
-            greatest: None,
-        })
+        let stock = Stock::new(alloc, sample, puts)?;
+        let stock = Box::new(alloc, stock)?;
+        Ok(Pool { stock })
     }
 
     /// Puts an item in.
@@ -107,15 +92,7 @@ impl<T: Stamped + Copy> Pool<T> {
         ensures full { IfErr result (λ e. (e ≡ PoolRefused.Full) × (self.new ≡ self.old)
             × (length (left_in self.old.moves) ≡ 256)) }
     {
-        if self.items.len() == ROOM {
-            return Err(PoolRefused::Full);
-        }
-        let stamp = item.stamp_of();
-        self.moves.push_reserved(Move { item, put: true });
-        self.items.push_reserved(item);
-        self.puts_left -= 1;
-        self.greatest = Some(greater(self.greatest, stamp));
-        Ok(())
+        self.stock.put(item)
     }
 
     /// Takes out the item that was put last among those not taken.
@@ -129,11 +106,7 @@ impl<T: Stamped + Copy> Pool<T> {
         ensures empty { IfErr result (λ e. (e ≡ PoolRefused.Empty) × (self.new ≡ self.old)
             × (left_in self.old.moves ≡ [])) }
     {
-        let Some(item) = self.items.pop() else {
-            return Err(PoolRefused::Empty);
-        };
-        self.moves.push_reserved(Move { item, put: false });
-        Ok(item)
+        self.stock.take()
     }
 
     /// How many items it holds: the puts less the takings.
@@ -142,14 +115,14 @@ impl<T: Stamped + Copy> Pool<T> {
         ensures counted { result + takes_in self.now.moves ≡ puts_in self.now.moves }
         ensures few { result ≤ 256 }
     {
-        self.items.len() as u32
+        self.stock.len()
     }
 
     /// For how many puts it has room.
     pub fn puts_left(&self) -> u32
         ensures { result ≡ self.now.puts_left }
     {
-        self.puts_left
+        self.stock.puts_left()
     }
 
     /// All its moves, in order.
@@ -160,7 +133,7 @@ impl<T: Stamped + Copy> Pool<T> {
         ensures plans { All (λ v. T.same_plan v.item self.now.sample) self.now.moves }
         ensures in_order { TakeTheLast [] self.now.moves }
     {
-        self.moves.as_slice()
+        self.stock.moves()
     }
 
     // One more than the greatest stamp that was put, or the floor where that is more.
@@ -168,19 +141,6 @@ impl<T: Stamped + Copy> Pool<T> {
         requires { top_of T.stamp self.now.moves < 18446744073709551616 }
         ensures { result ≡ max floor (top_of T.stamp self.now.moves) }
     {
-        match self.greatest {
-            None => floor,
-            Some(stamp) => floor.max(stamp + 1),
-        }
-    }
-}
-
-// The greater of two stamps, of which there may be one alone.
-fn greater(old: Option<u64>, new: u64) -> u64
-    ensures { result + 1 ≡ max (new + 1) (above old) }
-{
-    match old {
-        None => new,
-        Some(old) => old.max(new),
+        self.stock.top(floor)
     }
 }

@@ -8,9 +8,14 @@ use std::hint::spin_loop;
 use std::sync::Wait;
 use std::sync::atomic::Ordering;
 
-/// How often a seat looks again before it sleeps: for some tens of microseconds, since a turn is mostly over
-/// in less than one, and to sleep and be woken takes longer.
-const LOOKS: u32 = 1_000;
+/// How often a seat looks again before it sleeps: for some tens of microseconds, since a turn is mostly over in less
+/// than one, and to sleep and be woken takes longer.
+const LOOKS: u32 = 32;
+
+/// How long a seat pauses between two looks, in the processor's shortest waits. Whoever looks again at once takes the
+/// turn's word from the processor that has the turn, and the turn itself between two acts of one worker, which
+/// finds near what it had before (Anderson 1990).
+const PAUSES: u32 = 512;
 
 impl<K: Kept, T: Stamped + Copy> Board<K, T> {
     // Waits until a turn is free, and answers its word.
@@ -24,7 +29,9 @@ impl<K: Kept, T: Stamped + Copy> Board<K, T> {
             if found % 2 == 0 {
                 return found;
             }
-            spin_loop();
+            for _ in 0..PAUSES {
+                spin_loop();
+            }
         }
         for _ in rt.forever() {
             let found = self.table.shared.peek(word);
