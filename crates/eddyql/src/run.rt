@@ -213,7 +213,8 @@ fn run_words<F: Folder, O: Sink, N: Sink, P: Predicates + Sync, G: Gate, R: Thre
 /// and nothing is put behind it.
 ///
 /// Where the words ask for several workers, each runs in a thread of its own, waits for turns, and calls the gate
-/// in them. With one worker no thread starts, no turn is waited for, and the gate isn't called.
+/// in them, and a large answer is put in order and written by as many threads. With one worker no thread starts,
+/// no turn is waited for, and the gate isn't called.
 pub fn run<F: Folder, O: Sink, N: Sink, P: Predicates + Sync, G: Gate, R: Threads + Wait + Sync>(
     rt: &R,
     alloc: Global,

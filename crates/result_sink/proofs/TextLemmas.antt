@@ -4,8 +4,8 @@ use Rattle.std.proofs.lemmas.List.{take_more, take_all, get_or-map, take-append-
 use Rattle.std.proofs.lemmas.Bool.Decides.{Decides-eqb}
 use Rattle.std.specs.List.{flat_map}
 use Rattle.std.specs.Prelude.{Option, Result, Ok, Err, OnOk}
-use Rattle.outside.specs.Told.{Adds}
-use Rattle.outside.proofs.Laws.{Adds-nothing, Adds-twice}
+use Rattle.outside.specs.Told.{Adds, AddsFront}
+use Rattle.outside.proofs.Laws.{Adds-nothing, Adds-twice, AddsFront-within}
 use Rattle.std.proofs.lemmas.List.Concat.{flat_map-append, flat_map-cons}
 use Rattle.sq_value.specs.Relation.{Relation}
 use Rattle.sq_expr.specs.declared.block.Block.{Block}
@@ -176,3 +176,57 @@ row_text-some fields e =
     let long = length-append (row_body default_writer fields) (blank ++ (10 ∷ [])) in
     let end = length-append blank (10 ∷ []) in
     absurd (omega (arith, long, end, ap (length {A = ℕ}) e))
+
+-- ---- texts that are added part by part
+
+-- what was added is the text of the items before those that are left
+abbrev pub AddsBefore : {X : Type 0} → (X → List ℕ) → List X → List X → Option (List ℕ) → Option (List ℕ) → Type 0
+AddsBefore {X} f xs rest old now = (front : List X) × (xs ≡ front ++ rest) × Adds old now (flat_map f front)
+
+pub AddsBefore-start : {X : Type 0} (f : X → List ℕ) (xs : List X) (told : Option (List ℕ)) → AddsBefore f xs xs told told
+AddsBefore-start f xs told = ([], refl, Adds-nothing told)
+
+-- the text of three parts
+flat_map-parts : {X : Type 0} (f : X → List ℕ) (xs front rest some more : List X) → xs ≡ front ++ rest → rest ≡ some ++ more
+    → flat_map f xs ≡ (flat_map f front ++ flat_map f some) ++ flat_map f more
+flat_map-parts {X = X} f xs front rest some more e k =
+    ap (flat_map f) (e ∙ ap (λ (z : List X). front ++ z) k) ∙ flat_map-append f front (some ++ more)
+    ∙ ap (λ (z : List ℕ). flat_map f front ++ z) (flat_map-append f some more)
+    ∙ sym (append_assoc (flat_map f front) (flat_map f some) (flat_map f more))
+
+-- one part more
+pub AddsBefore-more : {X : Type 0} (f : X → List ℕ) (xs rest some more : List X) (old mid new : Option (List ℕ))
+    → rest ≡ some ++ more → AddsBefore f xs rest old mid → Adds mid new (flat_map f some) → AddsBefore f xs more old new
+AddsBefore-more {X = X} f xs rest some more old mid new k (front, e, h) step = (
+  front ++ some,
+  e ∙ ap (λ (z : List X). front ++ z) k ∙ sym (append_assoc front some more),
+  subst (Adds old new) (sym (flat_map-append f front some)) (Adds-twice old mid new (flat_map f front) (flat_map f some) h step),
+)
+
+-- none is left
+pub AddsBefore-all : {X : Type 0} (f : X → List ℕ) (xs rest : List X) (old new : Option (List ℕ)) → length rest ≡ 0
+    → AddsBefore f xs rest old new → Adds old new (flat_map f xs)
+AddsBefore-all f xs [] old new none (front, e, h) = subst (λ ys. Adds old new (flat_map f ys)) (sym (e ∙ append-nil front)) h
+AddsBefore-all f xs (x ∷ rest) old new none before = absurd (omega arith)
+
+-- a front or a part of the next one
+pub AddsBefore-front : {X : Type 0} (f : X → List ℕ) (xs rest some more : List X) (old mid new : Option (List ℕ))
+    → rest ≡ some ++ more → AddsBefore f xs rest old mid → AddsFront mid new (flat_map f some) → AddsFront old new (flat_map f xs)
+AddsBefore-front f xs rest some more old mid new k (front, e, h) step =
+    AddsFront-within old mid new (flat_map f front) (flat_map f some) (flat_map f more) (flat_map f xs) (flat_map-parts f xs front rest some more e k) h step
+
+pub AddsBefore-part : {X : Type 0} (f : X → List ℕ) (xs rest some more : List X) (old mid new : Option (List ℕ))
+    → rest ≡ some ++ more → AddsBefore f xs rest old mid → AddsPart mid new (flat_map f some) → AddsPart old new (flat_map f xs)
+AddsBefore-part f xs rest some more old mid new k (front, e, h) step =
+    AddsPart-within old mid new (flat_map f front) (flat_map f some) (flat_map f more) (flat_map f xs) (flat_map-parts f xs front rest some more e k) h step
+
+-- the records of some combinations aren't nothing
+pub records-some : (block : Block) (tables : List Relation) (combos : List Combo) → 0 < length combos → flat_map (record_text block tables) combos ≢ []
+records-some block tables [] some = absurd (omega arith)
+records-some block tables (c ∷ combos) some = λ e.
+    row_text-some (row_fields block tables (rows_of_combo block c))
+    (first (record_text block tables c) (flat_map (record_text block tables) combos) (sym (flat_map-cons (record_text block tables) c combos) ∙ e))
+  where
+    first : (x y : List ℕ) → x ++ y ≡ [] → x ≡ []
+    first [] y e = refl
+    first (a ∷ x) y e = absurd (cc e)

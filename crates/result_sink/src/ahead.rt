@@ -117,3 +117,10 @@ pub(crate) fn read_keys(block: &Block, tables: &Tables, combos: &[Combo], place:
     }
     read
 }
+
+/// Keeps what was read ahead. No clause says what the line is then, since a record begins anew.
+pub(crate) fn keep_read(line: &mut Vec<u8>, read: u64) {
+    if read == u64::MAX && line.reserve(1).is_err() {
+        line.clear();
+    }
+}

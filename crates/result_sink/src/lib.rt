@@ -7,13 +7,18 @@ mod cell;
 mod comparing;
 mod fault;
 mod field;
+mod halving;
+mod making;
 mod ordering;
 mod prefix;
 mod record;
+mod sorting;
+mod spreading;
 #[cfg(test)]
 mod tests;
 mod writing;
 
 pub use fault::WriteFault;
-pub use ordering::{in_order, order_law};
+pub use ordering::{in_order, in_order_by, order_law};
+pub use spreading::write_answer_by;
 pub use writing::write_answer;

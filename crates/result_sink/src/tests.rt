@@ -5,6 +5,9 @@ ghost use Rattle.sq_value.specs.Relation.{IsRow, HasKind};
 ghost use Rattle.sq_value.specs.declared.value.ColType.TheVariants as kind;
 ghost use Rattle.result_sink.specs.Samples.{sample_columns, AreSampleTables, IsSampleBlock, Fall};
 
+use crate::ordering::ordered_by;
+use crate::spreading::put_all;
+use crate::writing::put_heading;
 use crate::{WriteFault, in_order, write_answer};
 use bag_meaning::Combo;
 use outside::{MemorySink, Sink, SureSink};
@@ -14,6 +17,7 @@ use sqlite_items::Items;
 use std::alloc::Global;
 use std::process::Abort;
 use std::test::Fail;
+use std::thread::Threads;
 
 fn column(alloc: Global, name: &str, kind: ColType) -> Result<Column, Memory>
     ensures { IfOk result (λ c. c ≡ record { name = name.now; kind = kind }) }
@@ -169,21 +173,33 @@ fn key(alias: u8, column: u32, descending: bool, nulls_first: bool) -> OrderKey 
     OrderKey { alias, column, way }
 }
 
-/// Orders six combinations that arrive with falling rows of alias 0, and compares these rows.
+/// Compares the rows of alias 0 of six combinations.
+fn check_rows(rt: &impl Abort, combos: &[Combo], expected: [u32; 6]) -> Result<(), Fail> {
+    assert_eq!(rt; combos.len(), 6);
+    for (place, combo) in combos.iter().enumerate() {
+        assert_eq!(rt; Some(&combo.rows[0]), expected.get(place));
+    }
+    Ok(())
+}
+
+/// Orders six combinations that arrive with falling rows of alias 0, by one thread and by several, and
+/// compares these rows.
 #[tactic(auto, using(crate::proofs::SampleLaws::sample_ordered, crate::proofs::SampleLaws::sample_apart))]
-fn check_order(
-    rt: &impl Abort,
+fn check_order<R: Abort + Threads + Sync>(
+    rt: &R,
     alloc: Global,
     keys: &[OrderKey],
     expected: [u32; 6],
 ) -> Result<(), Fail> {
     let tables = sample_tables(alloc)?;
     let block = sample_block(alloc, &[], keys)?;
-    let given = falling(alloc, &[(5, 0), (4, 1), (3, 1), (2, 0), (1, 0), (0, 1)])?;
-    let sorted = in_order(&block, &tables, given)?;
-    assert_eq!(rt; sorted.len(), 6);
-    for (place, combo) in sorted.iter().enumerate() {
-        assert_eq!(rt; Some(&combo.rows[0]), expected.get(place));
+    let pairs = [(5, 0), (4, 1), (3, 1), (2, 0), (1, 0), (0, 1)];
+    let sorted = in_order(&block, &tables, falling(alloc, &pairs)?)?;
+    check_rows(rt, &sorted, expected)?;
+    for threads in [1, 2, 3, 5, 16] {
+        let again = falling(alloc, &pairs)?;
+        let sorted = ordered_by(rt, threads, &block, &tables, again)?;
+        check_rows(rt, &sorted, expected)?;
     }
     Ok(())
 }
@@ -209,6 +225,24 @@ fn answers_are_ordered(rt: HostRuntime) -> Result<(), Fail> {
     Ok(())
 }
 
+/// Compares the text that several threads make of combinations with the one that is expected.
+#[tactic(auto, using(crate::proofs::SampleLaws::sample_shown))]
+fn check_spread<R: Abort + Threads + Sync>(
+    rt: &R,
+    alloc: Global,
+    threads: usize,
+    combos: &[Combo],
+    text: &str,
+) -> Result<(), Fail> {
+    let tables = sample_tables(alloc)?;
+    let block = sample_block(alloc, &[(0, 0), (0, 1), (0, 2), (0, 3), (1, 3)], &[])?;
+    let mut out = SureSink::with_room(alloc, 1000)?;
+    put_heading(&mut Vec::new(alloc), &block, &mut out)?;
+    put_all(rt, alloc, threads, &block, &tables, combos, &mut out)?;
+    assert_eq!(rt; out.written(), text.as_bytes());
+    Ok(())
+}
+
 #[test]
 #[tactic(auto, using(crate::proofs::SampleLaws::sample_shown))]
 fn answers_are_written(rt: HostRuntime) -> Result<(), Fail> {
@@ -223,6 +257,9 @@ fn answers_are_written(rt: HostRuntime) -> Result<(), Fail> {
          9223372036854775807,,,0.0000,1.2000\n-9223372036854775808,\"say \"\"a\"\"\",1.00,1.2000,\n\
          ,\"a,b\",-0.05,-0.0001,\n1,b,0.05,,0.0000\n";
     assert_eq!(rt; out.written(), text.as_bytes());
+    for threads in [1, 2, 3, 5, 16] {
+        check_spread(&rt, alloc, threads, &combos, text)?;
+    }
 
     let block = sample_block(alloc, &[(0, 1)], &[])?;
     let mut out = MemorySink::with_room(alloc, 100)?;

@@ -8,7 +8,7 @@ ghost use Rattle.outside.specs.Faults.{NeverFalls, RoseOrFull};
 ghost use Rattle.outside.specs.Told.{Adds, AddsFront};
 ghost use Rattle.result_sink.specs.Ready.{IsShown, AddsPart, rows_of_combo, record_text};
 
-use crate::ahead::read_shown;
+use crate::ahead::{keep_read, read_shown};
 use crate::fault::WriteFault;
 use crate::record::{heading_line, record_line};
 use bag_meaning::Combo;
@@ -18,7 +18,7 @@ use sq_value::Tables;
 use std::alloc::Global;
 
 /// One put of a line.
-fn put_line<O: Sink>(line: &[u8], out: &mut O) -> Result<(), WriteFault>
+pub(crate) fn put_line<O: Sink>(line: &[u8], out: &mut O) -> Result<(), WriteFault>
     ensures counts { NeverFalls (O.faults out.old) (O.faults out.new) }
     ensures ok { OnOk result (Adds (O.written out.old) (O.written out.new) line.now) }
     ensures failed { OnErr result (RoseOrFull (O.faults out.old) (O.faults out.new)) }
@@ -33,7 +33,11 @@ fn put_line<O: Sink>(line: &[u8], out: &mut O) -> Result<(), WriteFault>
 }
 
 /// One put of the heading.
-fn put_heading<O: Sink>(line: &mut Vec<u8>, block: &Block, out: &mut O) -> Result<(), WriteFault>
+pub(crate) fn put_heading<O: Sink>(
+    line: &mut Vec<u8>,
+    block: &Block,
+    out: &mut O,
+) -> Result<(), WriteFault>
     ensures counts { NeverFalls (O.faults out.old) (O.faults out.new) }
     ensures ok { OnOk result (Adds (O.written out.old) (O.written out.new)
         (row_text default_writer (heading_fields block.now))) }
@@ -72,13 +76,6 @@ fn put_record<O: Sink>(
     match record_line(line, block, tables, combo) {
         Ok(()) => put_line(line, out),
         Err(_) => Err(WriteFault::Memory),
-    }
-}
-
-/// Keeps what was read ahead. No clause says what the line is then, since a record begins anew.
-fn keep_read(line: &mut Vec<u8>, read: u64) {
-    if read == u64::MAX && line.reserve(1).is_err() {
-        line.clear();
     }
 }
 
