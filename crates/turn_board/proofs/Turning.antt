@@ -19,7 +19,7 @@ use Rattle.turn_board.specs.declared.view.Terms.{Terms}
 use Rattle.turn_board.specs.Sums.{Each, total, once_below}
 use Rattle.turn_board.specs.Views.{stamped, drawn_in, entered, stamp_entered, row_entered, made_at, places_from, unended, holds_turn}
 use Rattle.turn_board.specs.Rule.{clock, turn_at, entries_at, marks_at, IsDrawn, IsGiven, Standing, IsFree, IsHeld, IsTurn, IsStanding, IsBoard}
-use Rattle.turn_board.specs.Plays.{drew, drew_in, took, noted, noted_in, marked, marked_by, gave, only, slot_of, Sat, Sees, Draws, Takes, Notes, Marks, Gives}
+use Rattle.turn_board.specs.Plays.{drew, drew_in, took, noted, noted_in, marked, marked_by, gave, only, slot_of, Sat, Sees, Draws, Takes, Notes, Marks, FindsNoted, FindsMarked, Gives}
 use Rattle.turn_board.proofs.Rosters.{there, place, tied_step, set_at, sum_set, sum_most, sum_snoc, sum_append, length_set, each_of, each_append, zero_sums}
 use Rattle.turn_board.proofs.Somes.{or_else}
 use Rattle.turn_board.proofs.Rows.{few_entries, each_drop_snoc}
@@ -340,6 +340,26 @@ module _ {K T : Type 0} (history : K → List (ℕ × ℕ)) (extends : K → K �
       ),
     )
 
+    -- a look at the entry word, which notes where the count stands there already
+    pub finding_noted : (slots id : ℕ) (p : SeatView K T) (hold : Hold K) (m : ℕ) (z : K) → p.hold ≡ Some hold → hold.noted ≡ false → hold.slot ≡ m → m < length key.opening.value.items → extends hold.taken z → history z ≡ history hold.taken ++ hold.since
+        → Allows (IsBoard history extends marks same_plan stamp_of key) slots id (p ∷ [], (m, OfModule z) ∷ []) (entries_at m) (λ n. n) (FindsNoted history (step slots (entries_at m) 0 0 none) (p ∷ [], (m, OfModule z) ∷ []))
+    finding_noted slots id p hold m z has open_turn slot within later added s kept len at small = let n = get_or s.words (25 + 8 * m) 0 in dite (ℕ_discrete n (length (history z)))
+        (λ e. let got = noting slots id p hold m n z has open_turn slot within later added e s kept len at small in (
+          got.0,
+          got.1,
+          got.2,
+          got.3,
+          λ d y is. (λ _. got.4 d y is, λ ne. absurd (ne (e ∙ ap (λ (l : List (ℕ × Lot K T)). length (history (value_or z l))) is))),
+        ))
+        (λ ne. (
+          p ∷ [],
+          keeps,
+          tt,
+          subst (λ (x : List ℕ × List (List (SeatView K T))). IsBoard history extends marks same_plan stamp_of key (record { words = x.0; homes = s.homes; views = x.1 }))
+              (λ i. (sym (set-get_or s.words (25 + 8 * m) 0) i, sym (set_again s.views id (p ∷ []) at) i)) kept,
+          λ d y is. (λ e. absurd (ne (e ∙ sym (ap (λ (l : List (ℕ × Lot K T)). length (history (value_or z l))) is))), λ _. refl),
+        ))
+
   marks_it : (s : State (Lot K T) (List (SeatView K T))) (kept : IsBoard history extends marks same_plan stamp_of key s) (id : ℕ) (p : SeatView K T) (hold : Hold K) (m v : ℕ) (z : K) → get_elem? s.views id ≡ some (p ∷ []) → p.hold ≡ Some hold → hold.noted ≡ true → hold.marked ≡ false
       → hold.slot ≡ m → m < length key.opening.value.items → get_elem? p.saw m ≡ some z → length (marks hold.taken) ≤ length (marks z) → unended (marks hold.taken) ≤ get_or p.owed m 0 + unended (marks z) → total (λ n. n) (marked_by marks p z (Some hold)).owed ≤ 1 → v ≡ length (marks z)
       → IsBoard history extends marks same_plan stamp_of key (record { words = set s.words (26 + 8 * m) v; homes = s.homes; views = set s.views id (marked marks p z ∷ []) }) × (unended (marks z) < 32)
@@ -431,11 +451,38 @@ module _ {K T : Type 0} (history : K → List (ℕ × ℕ)) (extends : K → K �
     λ d y is. (ap (λ (l : List (ℕ × Lot K T)). let r : Sat K T = (marked marks p (value_or z l) ∷ [], (m, OfModule z) ∷ []) in r) is, subst (λ (x : K). unended (marks x) < 32) (ap (value_or z) is) got.1),
   )
 
+  -- a look at the mark word, which notes where the count stands there already
+  pub finding_marked : (slots id : ℕ) (p : SeatView K T) (hold : Hold K) (m : ℕ) (z : K) → p.hold ≡ Some hold → hold.noted ≡ true → hold.marked ≡ false → hold.slot ≡ m → m < length key.opening.value.items → get_elem? p.saw m ≡ some z
+      → length (marks hold.taken) ≤ length (marks z) → unended (marks hold.taken) ≤ get_or p.owed m 0 + unended (marks z) → total (λ n. n) (marked_by marks p z (Some hold)).owed ≤ 1
+      → Allows (IsBoard history extends marks same_plan stamp_of key) slots id (p ∷ [], (m, OfModule z) ∷ []) (marks_at m) (λ n. n) (FindsMarked marks (step slots (marks_at m) 0 0 none) (p ∷ [], (m, OfModule z) ∷ []))
+  finding_marked slots id p hold m z has is_noted unmarked_yet slot within saw_it longer enough saving s kept len at small = let n = get_or s.words (26 + 8 * m) 0 in dite (ℕ_discrete n (length (marks z)))
+      (λ e. let got = marking slots id p hold m n z has is_noted unmarked_yet slot within saw_it longer enough saving e s kept len at small in (
+        got.0,
+        got.1,
+        got.2,
+        got.3,
+        λ d y is. (λ _. got.4 d y is, λ ne. absurd (ne (e ∙ ap (λ (l : List (ℕ × Lot K T)). length (marks (value_or z l))) is))),
+      ))
+      (λ ne. (
+        p ∷ [],
+        keeps,
+        tt,
+        subst (λ (x : List ℕ × List (List (SeatView K T))). IsBoard history extends marks same_plan stamp_of key (record { words = x.0; homes = s.homes; views = x.1 }))
+            (λ i. (sym (set-get_or s.words (26 + 8 * m) 0) i, sym (set_again s.views id (p ∷ []) at) i)) kept,
+        λ d y is. (λ e. absurd (ne (e ∙ sym (ap (λ (l : List (ℕ × Lot K T)). length (marks (value_or z l))) is))), λ _. refl),
+      ))
+
   pub marking_one : (slots id : ℕ) (me : Sat K T) (hold : Hold K) (m v : ℕ) (z : K) → me ≡ (only me.0 ∷ [], (m, OfModule z) ∷ []) → (only me.0).hold ≡ Some hold → hold.noted ≡ true → hold.marked ≡ false → hold.slot ≡ m → m < length key.opening.value.items → get_elem? (only me.0).saw m ≡ some z
       → length (marks hold.taken) ≤ length (marks z) → unended (marks hold.taken) ≤ get_or (only me.0).owed m 0 + unended (marks z) → total (λ n. n) (marked_by marks (only me.0) z (Some hold)).owed ≤ 1 → v ≡ length (marks z)
       → Allows (IsBoard history extends marks same_plan stamp_of key) slots id me (marks_at m) (λ _. v) (λ _. Marks marks (step slots (marks_at m) v 0 none) me v)
   marking_one slots id me hold m v z one has is_noted unmarked_yet slot within saw_it longer enough saving count_is = subst (λ (u : Sat K T). Allows (IsBoard history extends marks same_plan stamp_of key) slots id u (marks_at m) (λ _. v) (λ _. Marks marks (step slots (marks_at m) v 0 none) u v)) (sym one)
       (marking slots id (only me.0) hold m v z has is_noted unmarked_yet slot within saw_it longer enough saving count_is)
+
+  pub finding_marked_one : (slots id : ℕ) (me : Sat K T) (hold : Hold K) (m : ℕ) (z : K) → me ≡ (only me.0 ∷ [], (m, OfModule z) ∷ []) → (only me.0).hold ≡ Some hold → hold.noted ≡ true → hold.marked ≡ false → hold.slot ≡ m → m < length key.opening.value.items → get_elem? (only me.0).saw m ≡ some z
+      → length (marks hold.taken) ≤ length (marks z) → unended (marks hold.taken) ≤ get_or (only me.0).owed m 0 + unended (marks z) → total (λ n. n) (marked_by marks (only me.0) z (Some hold)).owed ≤ 1
+      → Allows (IsBoard history extends marks same_plan stamp_of key) slots id me (marks_at m) (λ n. n) (FindsMarked marks (step slots (marks_at m) 0 0 none) me)
+  finding_marked_one slots id me hold m z one has is_noted unmarked_yet slot within saw_it longer enough saving = subst (λ (u : Sat K T). Allows (IsBoard history extends marks same_plan stamp_of key) slots id u (marks_at m) (λ n. n) (FindsMarked marks (step slots (marks_at m) 0 0 none) u)) (sym one)
+      (finding_marked slots id (only me.0) hold m z has is_noted unmarked_yet slot within saw_it longer enough saving)
 
   gives_it : (s : State (Lot K T) (List (SeatView K T))) (kept : IsBoard history extends marks same_plan stamp_of key s) (id : ℕ) (p : SeatView K T) (hold : Hold K) (m : ℕ) (z : K) → get_elem? s.views id ≡ some (p ∷ []) → p.hold ≡ Some hold → hold.noted ≡ true → hold.marked ≡ true
       → hold.slot ≡ m → m < length key.opening.value.items → get_elem? p.saw m ≡ some z
@@ -507,6 +554,12 @@ module _ {K T : Type 0} (history : K → List (ℕ × ℕ)) (extends : K → K �
       → Allows (IsBoard history extends marks same_plan stamp_of key) slots id me (entries_at m) (λ _. v) (λ _. Notes (step slots (entries_at m) v 0 none) me v)
   noting_one same further slots id me hold m v z one has open_turn slot within later added count_is = subst (λ (u : Sat K T). Allows (IsBoard history extends marks same_plan stamp_of key) slots id u (entries_at m) (λ _. v) (λ _. Notes (step slots (entries_at m) v 0 none) u v)) (sym one)
       (noting same further slots id (only me.0) hold m v z has open_turn slot within later added count_is)
+
+  pub finding_noted_one : ((x : K) → extends x x) → ((x y z : K) → extends x y → extends y z → extends x z) → (slots id : ℕ) (me : Sat K T) (hold : Hold K) (m : ℕ) (z : K) → me ≡ (only me.0 ∷ [], (m, OfModule z) ∷ []) → (only me.0).hold ≡ Some hold → hold.noted ≡ false → hold.slot ≡ m
+      → m < length key.opening.value.items → extends hold.taken z → history z ≡ history hold.taken ++ hold.since
+      → Allows (IsBoard history extends marks same_plan stamp_of key) slots id me (entries_at m) (λ n. n) (FindsNoted history (step slots (entries_at m) 0 0 none) me)
+  finding_noted_one same further slots id me hold m z one has open_turn slot within later added = subst (λ (u : Sat K T). Allows (IsBoard history extends marks same_plan stamp_of key) slots id u (entries_at m) (λ n. n) (FindsNoted history (step slots (entries_at m) 0 0 none) u)) (sym one)
+      (finding_noted same further slots id (only me.0) hold m z has open_turn slot within later added)
 
   pub giving_one : (slots id : ℕ) (me : Sat K T) (hold : Hold K) (m word : ℕ) (z : K) → me ≡ (only me.0 ∷ [], (m, OfModule z) ∷ []) → (only me.0).hold ≡ Some hold → hold.noted ≡ true → hold.marked ≡ true → hold.slot ≡ m → m < length key.opening.value.items → get_elem? (only me.0).saw m ≡ some z → word ≡ 2 * (unended (marks z) + 32 * hold.bound)
       → Allows (IsBoard history extends marks same_plan stamp_of key) slots id me (turn_at m) (λ _. word) (λ _. Gives (step slots (turn_at m) (word) 0 none) me (word))

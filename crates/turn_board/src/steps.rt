@@ -13,7 +13,9 @@ use crate::kept::Kept;
 use crate::lot::Lot;
 use crate::pool::Stamped;
 use crate::seat::Token;
-use crate::view::{Claiming, DrawFor, Drawing, Giving, Marking, Noting, Taking};
+use crate::view::{
+    Claiming, DrawFor, Drawing, FindingMarked, FindingNoted, Giving, Marking, Noting, Taking,
+};
 
 /// The first cursor's word.
 const CURSORS: usize = 8;
@@ -86,8 +88,28 @@ impl<K: Kept, T: Stamped + Copy> Board<K, T> {
         self.table.shared.fetch_add::<Drawing<D>>(token, 0, 1)
     }
 
+    // One look at an entry word. Where the count stands there already, that notes the state in the slot: a look is no
+    // write, which would wait until all that was written before has reached the cache.
+    fn find_noted(&self, token: &mut Token<K, T>, slot: u32, count: u64) -> u64
+        requires board { token.old.table_id ≡ self.now.table.shared.table_id }
+        requires slot { slot < self.now.modules }
+        requires hold { (h : Hold K) × (z : K) × (token.old.me ≡ (view_at token.old ∷ [], (slot, Lot.OfModule z) ∷ []))
+            × ((view_at token.old).hold ≡ Some h) × (h.noted ≡ false) × (h.slot ≡ slot) × K.extends h.taken z
+            × (K.history z ≡ K.history h.taken ++ h.since) × (count ≡ length (K.history z)) }
+        ensures board { (token.new.table_id ≡ token.old.table_id) × (token.new.id ≡ token.old.id) }
+        ensures noted { result ≡ count → (z : K) → token.old.me.1 ≡ (slot, Lot.OfModule z) ∷ []
+            → (token.new.me ≡ (noted (view_at token.old) z ∷ [], token.old.me.1))
+            × (slot_of (view_at token.old).hold ≡ slot → get_elem? (noted (view_at token.old) z).saw slot
+            ≡ some z) }
+        ensures other { result ≢ count → token.new.me ≡ token.old.me }
+    {
+        let _count = count;
+        let word = TURNS + 1 + 8 * slot as usize;
+        self.table.shared.load::<FindingNoted>(token, word)
+    }
+
     // One step on an entry word.
-    pub(crate) fn note_as(&self, token: &mut Token<K, T>, slot: u32, count: u64)
+    fn write_noted(&self, token: &mut Token<K, T>, slot: u32, count: u64)
         requires board { token.old.table_id ≡ self.now.table.shared.table_id }
         requires slot { slot < self.now.modules }
         requires hold { (h : Hold K) × (z : K) × (token.old.me ≡ (view_at token.old ∷ [], (slot, Lot.OfModule z) ∷ []))
@@ -103,8 +125,47 @@ impl<K: Kept, T: Stamped + Copy> Board<K, T> {
         self.table.shared.store::<Noting>(token, word, count)
     }
 
+    // The count of entries noted on an entry word, by a look where it stands there.
+    pub(crate) fn note_as(&self, token: &mut Token<K, T>, slot: u32, count: u64)
+        requires board { token.old.table_id ≡ self.now.table.shared.table_id }
+        requires slot { slot < self.now.modules }
+        requires hold { (h : Hold K) × (z : K) × (token.old.me ≡ (view_at token.old ∷ [], (slot, Lot.OfModule z) ∷ []))
+            × ((view_at token.old).hold ≡ Some h) × (h.noted ≡ false) × (h.slot ≡ slot) × K.extends h.taken z
+            × (K.history z ≡ K.history h.taken ++ h.since) × (count ≡ length (K.history z)) }
+        ensures board { (token.new.table_id ≡ token.old.table_id) × (token.new.id ≡ token.old.id) }
+        ensures noted { (z : K) → token.old.me.1 ≡ (slot, Lot.OfModule z) ∷ []
+            → (token.new.me ≡ (noted (view_at token.old) z ∷ [], token.old.me.1))
+            × (slot_of (view_at token.old).hold ≡ slot → get_elem? (noted (view_at token.old) z).saw slot
+            ≡ some z) }
+    {
+        if self.find_noted(token, slot, count) != count {
+            self.write_noted(token, slot, count);
+        }
+    }
+
+    // One look at a mark word, after the note. Where the count stands there already, that notes the marks.
+    fn find_marked(&self, token: &mut Token<K, T>, slot: u32, count: u64) -> u64
+        requires board { token.old.table_id ≡ self.now.table.shared.table_id }
+        requires slot { slot < self.now.modules }
+        requires hold { (h : Hold K) × (z : K) × (token.old.me ≡ (view_at token.old ∷ [], (slot, Lot.OfModule z) ∷ []))
+            × ((view_at token.old).hold ≡ Some h) × (h.noted ≡ true) × (h.marked ≡ false) × (h.slot ≡ slot)
+            × (get_elem? (view_at token.old).saw slot ≡ some z) × (length (K.marks h.taken) ≤ length (K.marks z))
+            × (unended (K.marks h.taken) ≤ slice_index (view_at token.old).owed slot + unended (K.marks z))
+            × (debts (marked_by K.marks (view_at token.old) z (Some h)) ≤ 1)
+            × (count ≡ length (K.marks z)) }
+        ensures board { (token.new.table_id ≡ token.old.table_id) × (token.new.id ≡ token.old.id) }
+        ensures marked { result ≡ count → (z : K) → token.old.me.1 ≡ (slot, Lot.OfModule z) ∷ []
+            → (token.new.me ≡ (marked K.marks (view_at token.old) z ∷ [], token.old.me.1))
+            × (unended (K.marks z) < 32) }
+        ensures other { result ≢ count → token.new.me ≡ token.old.me }
+    {
+        let _count = count;
+        let word = TURNS + 2 + 8 * slot as usize;
+        self.table.shared.load::<FindingMarked>(token, word)
+    }
+
     // One step on a mark word, after the note.
-    pub(crate) fn mark_as(&self, token: &mut Token<K, T>, slot: u32, count: u64)
+    fn write_marked(&self, token: &mut Token<K, T>, slot: u32, count: u64)
         requires board { token.old.table_id ≡ self.now.table.shared.table_id }
         requires slot { slot < self.now.modules }
         requires hold { (h : Hold K) × (z : K) × (token.old.me ≡ (view_at token.old ∷ [], (slot, Lot.OfModule z) ∷ []))
@@ -120,6 +181,26 @@ impl<K: Kept, T: Stamped + Copy> Board<K, T> {
     {
         let word = TURNS + 2 + 8 * slot as usize;
         self.table.shared.store::<Marking>(token, word, count)
+    }
+
+    // The count of marks noted on a mark word, by a look where it stands there.
+    pub(crate) fn mark_as(&self, token: &mut Token<K, T>, slot: u32, count: u64)
+        requires board { token.old.table_id ≡ self.now.table.shared.table_id }
+        requires slot { slot < self.now.modules }
+        requires hold { (h : Hold K) × (z : K) × (token.old.me ≡ (view_at token.old ∷ [], (slot, Lot.OfModule z) ∷ []))
+            × ((view_at token.old).hold ≡ Some h) × (h.noted ≡ true) × (h.marked ≡ false) × (h.slot ≡ slot)
+            × (get_elem? (view_at token.old).saw slot ≡ some z) × (length (K.marks h.taken) ≤ length (K.marks z))
+            × (unended (K.marks h.taken) ≤ slice_index (view_at token.old).owed slot + unended (K.marks z))
+            × (debts (marked_by K.marks (view_at token.old) z (Some h)) ≤ 1)
+            × (count ≡ length (K.marks z)) }
+        ensures board { (token.new.table_id ≡ token.old.table_id) × (token.new.id ≡ token.old.id) }
+        ensures marked { (z : K) → token.old.me.1 ≡ (slot, Lot.OfModule z) ∷ []
+            → (token.new.me ≡ (marked K.marks (view_at token.old) z ∷ [], token.old.me.1))
+            × (unended (K.marks z) < 32) }
+    {
+        if self.find_marked(token, slot, count) != count {
+            self.write_marked(token, slot, count);
+        }
     }
 
     // One step on a turn word, after the mark.

@@ -147,6 +147,22 @@ impl<K: Kept, T: Stamped + Copy> Play<Lot<K, T>, LinkedList<SeatView<K, T>>> for
     ghost then = { Marks K.marks };
 }
 
+pub(crate) struct FindingNoted;
+
+impl<K: Kept, T: Stamped + Copy> Play<Lot<K, T>, LinkedList<SeatView<K, T>>> for FindingNoted {
+    ghost use Rattle.turn_board.specs.Plays.{FindsNoted};
+
+    ghost then = { FindsNoted K.history };
+}
+
+pub(crate) struct FindingMarked;
+
+impl<K: Kept, T: Stamped + Copy> Play<Lot<K, T>, LinkedList<SeatView<K, T>>> for FindingMarked {
+    ghost use Rattle.turn_board.specs.Plays.{FindsMarked};
+
+    ghost then = { FindsMarked K.marks };
+}
+
 pub(crate) struct Giving;
 
 impl<K: Kept, T: Stamped + Copy> Play<Lot<K, T>, LinkedList<SeatView<K, T>>> for Giving {

@@ -1,13 +1,14 @@
-use Rattle.std.proofs.Common.{arith, ◌<◌, ◌+◌, ◌*◌}
-use Rattle.turn_board.proofs.Turning.{noting_one}
+use Rattle.std.proofs.Common.{◌≡◌, false, length, ◌++◌, [], ◌∷◌, Some, sym, subst}
+use Rattle.turn_board.specs.declared.view.Hold.{Hold}
+use Rattle.turn_board.specs.declared.lot.Lot.TheVariants.{OfModule}
+use Rattle.turn_board.specs.Plays.{Sat, only}
 use Rattle.turn_board.proofs.board.Board.note_as.Goals as goal
 
-pub store-requires : goal.store-requires
-store-requires g c = let key = c.args.self.now.table.shared.key in let id = c.args.self.now.table.shared.table_id in let h = c.requires.hold in (
-  c.requires.board,
-  (let h : 25 + 8 * c.args.slot < id.words = omega (arith, c.args.self.now.words, c.requires.slot) in h),
-  noting_one g.K.Kept.history g.K.Kept.extends g.K.Kept.marks g.T.Stamped.same_plan g.T.Stamped.stamp key g.met.K.Kept.same g.met.K.Kept.further id.slots c.args.token.now.id c.args.token.now.me h.0 c.args.slot c.args.count h.1 h.2 h.3 h.4 h.5 (omega (arith, c.args.self.now.deep, c.requires.slot)) h.6 h.7 h.8,
-)
-
-pub returns-clause-noted : goal.returns-clause-noted
-returns-clause-noted g c z e = c.store.ensures.2 c.args.slot z e
+-- the look changed nothing
+pub write_noted-requires-clause-hold : goal.write_noted-requires-clause-hold
+write_noted-requires-clause-hold g c =
+    subst
+    (λ (me : Sat g.row.K.Denot g.row.T.Denot). (h : Hold g.row.K.Denot) × (z : g.row.K.Denot) × (me ≡ (only me.0 ∷ [], (c.args.slot, OfModule z) ∷ []))
+    × ((only me.0).hold ≡ Some h) × (h.noted ≡ false) × (h.slot ≡ c.args.slot) × g.K.Kept.extends h.taken z
+    × (g.K.Kept.history z ≡ g.K.Kept.history h.taken ++ h.since) × (c.args.count ≡ length (g.K.Kept.history z)))
+    (sym (c.find_noted.ensures.other c.if-find_noted-count.true)) c.requires.hold
