@@ -1,6 +1,6 @@
 #!/bin/sh
 # Measures the indexes beside the maps of Rust's standard library, in one run, and prints nanoseconds of processor time. A
-# kind of keys is 0: random, 1: rising, 2: all equal.
+# kind of keys is 0: random, 1: rising, 2: all equal, 3: texts of random numbers.
 set -e
 here=$(cd "$(dirname "$0")" && pwd)
 sh "$here/run-one.sh" indexes 'sq_value: arrayvec
