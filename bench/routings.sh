@@ -18,7 +18,7 @@ trap 'rm -rf "$work"' EXIT
 if [ -z "$ROUTINGS" ]; then
     crate="$work/crates/routings_bench"
     mkdir -p "$crate/src" "$crate/specs"
-    low='sq_value outside catalogue table_csv sq_parse stem_index sq_expr sq_bind bag_meaning tuple_span eddy_meaning eddy_runs
+    low='sq_value outside catalogue table_csv sq_token sq_parse stem_index sq_expr sq_bind bag_meaning tuple_span eddy_meaning eddy_runs
         routing_rules select_module scan_source index_source stem_module route_policy eddy_core'
     for name in $low; do
         cp -r "$top/crates/$name" "$work/crates/"

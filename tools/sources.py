@@ -101,12 +101,14 @@ def in_tests(module, tests):
 
 
 def exported(repository, crate):
-    """The names that a library passes on from its root, and its public modules; None for a program."""
+    """The names of its own that a library passes on from its root, and its public modules; None for a program."""
     if is_program(repository, crate):
         return None
     text = without_comments(repository.text(f"crates/{crate}/src/lib.rt"))
-    names = set()
+    names, modules = set(), set(re.findall(r"\bmod (\w+)\s*;", text))
     for said in re.findall(r"\bpub use ([^;]+);", text):
+        if said.split("::")[0] in set(repository.crates) - modules:
+            continue  # (it is a lower crate's, which has it in its own list)
         inside = re.sub(r"\s+", " ", said)
         for part in re.split(r"[{},]", inside):
             last = part.strip().split("::")[-1]

@@ -3,8 +3,8 @@ use Rattle.std.proofs.Common.{◌≡◌, inl, inr, ℕ, zero, suc, ◌<◌, ◌�
 use Rattle.std.specs.Prelude.{All, nat_le, ⊤}
 use Rattle.std.proofs.lemmas.Bool.{leb-true}
 use Rattle.std.proofs.lemmas.List.Elements.{All-nil, All-cons, All-head, All-tail, All-contains}
-use Rattle.sq_parse.specs.declared.mark.Mark.{Mark}
-use Rattle.sq_parse.specs.declared.mark.Mark.TheVariants as k
+use Rattle.sq_token.specs.declared.mark.Mark.{Mark}
+use Rattle.sq_token.specs.declared.mark.Mark.TheVariants as k
 use Rattle.sq_parse.specs.declared.tree.ColRef.{ColRef}
 use Rattle.sq_parse.specs.declared.tree.RawTerm.{RawTerm}
 use Rattle.sq_parse.specs.declared.tree.Name.{Name}
@@ -21,8 +21,8 @@ use Rattle.sq_parse.specs.declared.tree.Operand.TheVariants as o
 use Rattle.sq_parse.specs.declared.tree.Tree.{Tree, every_made-Tree}
 use Rattle.sq_parse.specs.declared.tree.Tree.TheVariants as t
 use Rattle.sq_parse.specs.declared.tree.Tree.TheOpen as level
-use Rattle.sq_parse.specs.Mark.{is_sign, is_comparison, is_truth_word}
-use Rattle.sq_parse.specs.Tok.{Tok, toks}
+use Rattle.sq_token.specs.Mark.{is_sign, is_comparison, is_truth_word}
+use Rattle.sq_token.specs.Tok.{Tok, toks}
 use Rattle.sq_parse.specs.Tree as made
 use Rattle.sq_parse.specs.Rules as rule
 use Rattle.sq_parse.specs.Rules.{◌⊗◌, ◌⊕◌, ◌⊛◌}

@@ -1,16 +1,16 @@
 -- Choices, loops and tests among reading functions, as what they do where they stop.
 use Rattle.std.proofs.Common.{◌≡◌, Bool, true, false, not, cond, ◌⊎◌, inl, inr, ⊎_elim, ℕ, zero, suc, ◌+◌, ◌<◌, ◌≤◌, List, [], ◌∷◌, ◌++◌, length, length-append, Option, Some, None, Ok, Err, refl, ap, sym, subst, ◌∙◌, arith}
-use Rattle.sq_parse.specs.declared.mark.Mark.{Mark}
-use Rattle.sq_parse.specs.declared.mark.Mark.TheVariants as k
+use Rattle.sq_token.specs.declared.mark.Mark.{Mark}
+use Rattle.sq_token.specs.declared.mark.Mark.TheVariants as k
 use Rattle.sq_parse.specs.declared.stop.Stop.{Stop}
 use Rattle.sq_parse.specs.declared.stop.Stop.TheVariants as stop
-use Rattle.sq_parse.specs.Mark.{is, same}
-use Rattle.sq_parse.specs.Tok.{Tok, head, next, behind}
+use Rattle.sq_token.specs.Mark.{is, same}
+use Rattle.sq_token.specs.Tok.{Tok, head, next, behind}
 use Rattle.sq_parse.specs.Rules as rule
 use Rattle.sq_parse.specs.Rules.{Rule, Then, ◌⊗◌, ◌⊕◌, ◌⊛◌}
 use Rattle.sq_parse.specs.Reading as read
 use Rattle.sq_parse.specs.Reading.{Parser, Outcome, and_then, ◌>>=◌, ◌<$>◌, ◌<+>◌}
-use Rattle.sq_parse.proofs.Marks.{within, within_at, apart, apart_at, all_within, within_self}
+use Rattle.sq_token.proofs.Marks.{within, within_at, apart, apart_at, all_within, within_self}
 use Rattle.sq_parse.proofs.Exact.{Chain, Full, Full-after, Ok-value, Err-Ok, and_then_ok}
 use Rattle.sq_parse.proofs.Loops.{Shrinks, many_step}
 use Rattle.sq_parse.proofs.Places.{fits, view, next_same, next_seen}

@@ -1,12 +1,12 @@
 -- The readers of conditions are exact for their rules, however deep.
 use Rattle.std.proofs.Common.{◌≡◌, Bool, true, not, ◌||◌, ℕ, zero, suc, List, refl}
-use Rattle.sq_parse.specs.declared.mark.Mark.{Mark}
-use Rattle.sq_parse.specs.declared.mark.Mark.TheVariants as k
+use Rattle.sq_token.specs.declared.mark.Mark.{Mark}
+use Rattle.sq_token.specs.declared.mark.Mark.TheVariants as k
 use Rattle.sq_parse.specs.declared.stop.Stop.TheVariants as stop
 use Rattle.sq_parse.specs.declared.tree.Tree.{Tree}
 use Rattle.sq_parse.specs.declared.tree.Tree.TheVariants as t
-use Rattle.sq_parse.specs.Mark.{is, same, is_sign, is_truth_word}
-use Rattle.sq_parse.specs.Tok.{Tok}
+use Rattle.sq_token.specs.Mark.{is, same, is_sign, is_truth_word}
+use Rattle.sq_token.specs.Tok.{Tok}
 use Rattle.sq_parse.specs.Tree.{tested, all_of, any_of}
 use Rattle.sq_parse.specs.Rules as rule
 use Rattle.sq_parse.specs.Rules.{◌⊗◌, ◌⊕◌, ◌⊛◌}

@@ -1,11 +1,11 @@
 -- Where the readers of conditions stop, however deep.
 use Rattle.std.proofs.Common.{◌≡◌, true, inl, inr, ℕ, zero, suc, ◌<◌, ◌≤◌, List, [], ◌∷◌, ◌++◌, None, Err, refl, sym, append-nil, arith}
-use Rattle.sq_parse.specs.declared.mark.Mark.TheVariants as k
+use Rattle.sq_token.specs.declared.mark.Mark.TheVariants as k
 use Rattle.sq_parse.specs.declared.stop.Stop.TheVariants as stop
 use Rattle.sq_parse.specs.declared.tree.Tree.{Tree}
 use Rattle.sq_parse.specs.declared.tree.Tree.TheVariants as t
-use Rattle.sq_parse.specs.Mark.{is, same, is_truth_word}
-use Rattle.sq_parse.specs.Tok.{Tok, next}
+use Rattle.sq_token.specs.Mark.{is, same, is_truth_word}
+use Rattle.sq_token.specs.Tok.{Tok, next}
 use Rattle.sq_parse.specs.Tree.{tested, all_of, any_of}
 use Rattle.sq_parse.specs.Rules as rule
 use Rattle.sq_parse.specs.Rules.{Then, ◌⊗◌, ◌⊕◌, ◌⊛◌}
@@ -15,7 +15,7 @@ use Rattle.sq_parse.specs.Grammar as g
 use Rattle.sq_parse.specs.Grammar.{Limits, shipped}
 use Rattle.sq_parse.specs.Spelling.{unlimited}
 use Rattle.sq_parse.specs.Reader as read
-use Rattle.sq_parse.proofs.Marks.{apart_at}
+use Rattle.sq_token.proofs.Marks.{apart_at}
 use Rattle.sq_parse.proofs.Exact.{Full-after}
 use Rattle.sq_parse.proofs.Exact as exact
 use Rattle.sq_parse.proofs.Loops.{Shrinks, Shrinks-exact}

@@ -1,8 +1,8 @@
 use Rattle.std.proofs.Common.{◌≡◌, ◌+◌, ◌*◌, ℕ, Option, Some, None, map, min, ap, sym, arith}
-use Rattle.sq_parse.specs.declared.piece.Drawn.{Drawn}
-use Rattle.sq_parse.specs.Form.{Text}
-use Rattle.sq_parse.specs.Piece.{IsDrawn}
-use Rattle.sq_parse.specs.Tok.{tok_of, toks}
+use Rattle.sq_token.specs.declared.piece.Drawn.{Drawn}
+use Rattle.sq_token.specs.Form.{Text}
+use Rattle.sq_token.specs.Piece.{IsDrawn}
+use Rattle.sq_token.specs.Tok.{tok_of, toks}
 use Rattle.sq_parse.specs.Cursor.{drawn_toks}
 
 -- what was drawn from a text shows the text's tokens

@@ -1,16 +1,16 @@
 -- A reading function is exact for a rule where it reads what the rule spells, and all of it.
 use Rattle.std.proofs.Common.{◌≡◌, Bool, true, false, ◌&&◌, ◌||◌, cond, ◌⊎◌, inl, inr, ⊎_elim, ℕ, zero, suc, ◌+◌, ◌≤◌, List, [], ◌∷◌, ◌++◌, length, length-append, Option, Some, None, Result, Ok, Err, refl, ap, sym, subst, ◌∙◌, append_assoc, arith}
-use Rattle.sq_parse.specs.declared.mark.Mark.{Mark}
-use Rattle.sq_parse.specs.declared.mark.Mark.TheVariants as k
+use Rattle.sq_token.specs.declared.mark.Mark.{Mark}
+use Rattle.sq_token.specs.declared.mark.Mark.TheVariants as k
 use Rattle.sq_parse.specs.declared.stop.Stop.{Stop}
 use Rattle.sq_parse.specs.declared.stop.Stop.TheVariants as stop
-use Rattle.sq_parse.specs.Mark.{is, same}
-use Rattle.sq_parse.specs.Tok.{Tok, next}
+use Rattle.sq_token.specs.Mark.{is, same}
+use Rattle.sq_token.specs.Tok.{Tok, next}
 use Rattle.sq_parse.specs.Rules as rule
 use Rattle.sq_parse.specs.Rules.{Rule, Then, ◌⊗◌, ◌⊕◌, ◌⊛◌}
 use Rattle.sq_parse.specs.Reading as read
 use Rattle.sq_parse.specs.Reading.{Parser, Outcome, and_then, ◌>>=◌, ◌<$>◌, ◌<+>◌}
-use Rattle.sq_parse.proofs.Marks.{within, within_at, apart, apart_at, and_left, and_right, all_within}
+use Rattle.sq_token.proofs.Marks.{within, within_at, apart, apart_at, and_left, and_right, all_within}
 
 pub record Exact {A : Type 0} (l : List Tok → A → Type 0) (p : Parser A) (starts follow : Mark → Bool) : Type 0 where
   pub takes : (ts : List Tok) (a : A) (rest : List Tok) → p ts ≡ Ok (a, rest) → (us : List Tok) × l us a × (ts ≡ us ++ rest)

@@ -1,20 +1,20 @@
 -- The readers of select lists, sources and sort keys are exact for their rules.
 use Rattle.std.proofs.Common.{◌≡◌, Bool, false, not, ◌||◌, inl, inr, List, [], ◌++◌, Option, Some, None, unwrap_or, option_map, refl, ap, sym, ◌∙◌, append_assoc, append-nil}
-use Rattle.sq_parse.specs.declared.mark.Mark.{Mark}
-use Rattle.sq_parse.specs.declared.mark.Mark.TheVariants as k
+use Rattle.sq_token.specs.declared.mark.Mark.{Mark}
+use Rattle.sq_token.specs.declared.mark.Mark.TheVariants as k
 use Rattle.sq_parse.specs.declared.tree.Name.{Name}
 use Rattle.sq_parse.specs.declared.tree.ColRef.{ColRef}
 use Rattle.sq_parse.specs.declared.tree.Items.TheVariants as selected
 use Rattle.sq_parse.specs.declared.tree.Item.{Item}
 use Rattle.sq_parse.specs.declared.tree.Item.TheVariants as shown
-use Rattle.sq_parse.specs.Mark.{is, same, is_name, is_way, is_end}
-use Rattle.sq_parse.specs.Tok.{Tok}
+use Rattle.sq_token.specs.Mark.{is, same, is_name, is_way, is_end}
+use Rattle.sq_token.specs.Tok.{Tok}
 use Rattle.sq_parse.specs.Tree.{column_of, source_of, way_of}
 use Rattle.sq_parse.specs.Rules as rule
 use Rattle.sq_parse.specs.Rules.{Then, ◌⊗◌, ◌⊕◌, ◌⊛◌}
 use Rattle.sq_parse.specs.Grammar as g
 use Rattle.sq_parse.specs.Reader as read
-use Rattle.sq_parse.proofs.Marks.{all_within}
+use Rattle.sq_token.proofs.Marks.{all_within}
 use Rattle.sq_parse.proofs.Exact.{Exact, Chain, token, weaker, gives, followed, chained, along, either, maybe, after, list_exact}
 use Rattle.sq_parse.proofs.OperandsExact.{anything, ends_column, name, column}
 

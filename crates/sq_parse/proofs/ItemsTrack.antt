@@ -1,17 +1,17 @@
 -- Where the readers of select lists, sources and sort keys stop.
 use Rattle.std.proofs.Common.{false, Some, None, unwrap_or, option_map, refl}
-use Rattle.sq_parse.specs.declared.mark.Mark.TheVariants as k
+use Rattle.sq_token.specs.declared.mark.Mark.TheVariants as k
 use Rattle.sq_parse.specs.declared.tree.Name.{Name}
 use Rattle.sq_parse.specs.declared.tree.ColRef.{ColRef}
 use Rattle.sq_parse.specs.declared.tree.Items.TheVariants as selected
 use Rattle.sq_parse.specs.declared.tree.Item.TheVariants as shown
-use Rattle.sq_parse.specs.Mark.{is, same, is_way, is_end}
+use Rattle.sq_token.specs.Mark.{is, same, is_way, is_end}
 use Rattle.sq_parse.specs.Tree.{column_of, source_of, way_of}
 use Rattle.sq_parse.specs.Rules as rule
 use Rattle.sq_parse.specs.Rules.{◌⊗◌, ◌⊕◌, ◌⊛◌}
 use Rattle.sq_parse.specs.Grammar as g
 use Rattle.sq_parse.specs.Reader as read
-use Rattle.sq_parse.proofs.Marks.{within_self}
+use Rattle.sq_token.proofs.Marks.{within_self}
 use Rattle.sq_parse.proofs.Shrinking as shrinking
 use Rattle.sq_parse.proofs.ItemsExact.{column_rest, dot_rest, from_rest}
 use Rattle.sq_parse.proofs.Tracks.{Faults, Tracks, any, unstarred, token, weaker, along, gives, followed, chained, after}

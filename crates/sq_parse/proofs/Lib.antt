@@ -1,8 +1,4 @@
-pub mod FormLemmas
-pub mod PieceLemmas
-pub mod TokenLemmas
 pub mod CursorLemmas
-pub mod Marks
 pub mod Exact
 pub mod OperandsExact
 pub mod ItemsExact

@@ -7,7 +7,7 @@ use Rattle.std.proofs.lemmas.Str.{IsUtf8-from_is_utf8, is_utf8-from_IsUtf8}
 use Rattle.sq_parse.specs.declared.parser.ParseFault.{ParseFault}
 use Rattle.sq_parse.specs.declared.parser.ParseFault.TheVariants as fault
 use Rattle.sq_parse.specs.declared.tree.Script.{Script}
-use Rattle.sq_parse.specs.Form.{Text}
+use Rattle.sq_token.specs.Form.{Text}
 use Rattle.sq_parse.specs.Parse.{parsed}
 use Rattle.sq_parse.specs.Fault.{ReadsAs, OneReading}
 use Rattle.sq_parse.proofs.ParseLemmas.{spelled_by, parsed_by}

@@ -1,11 +1,11 @@
 -- The readers of names, columns and operands are exact for their rules.
 use Rattle.std.proofs.Common.{◌≡◌, Bool, true, false, not, ◌||◌, ℕ, List, [], ◌++◌, Some, None, Ok, refl, ⊎_elim}
-use Rattle.sq_parse.specs.declared.mark.Mark.{Mark}
-use Rattle.sq_parse.specs.declared.mark.Mark.TheVariants as k
+use Rattle.sq_token.specs.declared.mark.Mark.{Mark}
+use Rattle.sq_token.specs.declared.mark.Mark.TheVariants as k
 use Rattle.sq_parse.specs.declared.tree.Operand.{Operand}
 use Rattle.sq_parse.specs.declared.tree.Operand.TheVariants as o
-use Rattle.sq_parse.specs.Mark.{is, same, is_name, is_sign}
-use Rattle.sq_parse.specs.Tok.{Tok, head, next, behind}
+use Rattle.sq_token.specs.Mark.{is, same, is_name, is_sign}
+use Rattle.sq_token.specs.Tok.{Tok, head, next, behind}
 use Rattle.sq_parse.specs.Tree.{name_of, column_of, number_term, column_term, signed, sum_of}
 use Rattle.sq_parse.specs.Rules as rule
 use Rattle.sq_parse.specs.Rules.{Then, ◌⊗◌, ◌⊕◌, ◌⊛◌}
@@ -14,7 +14,7 @@ use Rattle.sq_parse.specs.Reading.{Parser, ◌<$>◌, ◌<+>◌}
 use Rattle.sq_parse.specs.Grammar as g
 use Rattle.sq_parse.specs.Grammar.{Limits}
 use Rattle.sq_parse.specs.Reader as read
-use Rattle.sq_parse.proofs.Marks.{apart_at, all_within}
+use Rattle.sq_token.proofs.Marks.{apart_at, all_within}
 use Rattle.sq_parse.proofs.Exact.{Exact, token, number, weaker, gives, followed, by_test, either, maybe, repeated, after, swapped, alike, nest, Full, Full-gives, Full-left, Full-token, if_ok}
 
 -- ---- what may follow

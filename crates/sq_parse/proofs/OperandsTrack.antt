@@ -1,14 +1,14 @@
 -- Where the readers of names, columns and operands stop.
 use Rattle.std.proofs.Common.{◌≡◌, Bool, true, false, not, ◌&&◌, ◌||◌, cond, inl, inr, ⊎_elim, ℕ, nat_lt, ◌<◌, ◌≤◌, List, [], ◌∷◌, ◌++◌, length, Some, None, Ok, Err, refl, ap, sym, subst, ◌∙◌, arith}
 use Rattle.std.proofs.lemmas.Bool.Decides.{nat_tests}
-use Rattle.sq_parse.specs.declared.mark.Mark.{Mark}
-use Rattle.sq_parse.specs.declared.mark.Mark.TheVariants as k
+use Rattle.sq_token.specs.declared.mark.Mark.{Mark}
+use Rattle.sq_token.specs.declared.mark.Mark.TheVariants as k
 use Rattle.sq_parse.specs.declared.stop.Stop.{Stop}
 use Rattle.sq_parse.specs.declared.stop.Stop.TheVariants as stop
 use Rattle.sq_parse.specs.declared.tree.RawTerm.{RawTerm}
 use Rattle.sq_parse.specs.declared.tree.Operand.TheVariants as o
-use Rattle.sq_parse.specs.Mark.{is, same, is_name, is_sign}
-use Rattle.sq_parse.specs.Tok.{Tok, head, next, behind}
+use Rattle.sq_token.specs.Mark.{is, same, is_name, is_sign}
+use Rattle.sq_token.specs.Tok.{Tok, head, next, behind}
 use Rattle.sq_parse.specs.Tree.{name_of, column_of, number_term, column_term, signed, sum_of}
 use Rattle.sq_parse.specs.Rules as rule
 use Rattle.sq_parse.specs.Rules.{Then, ◌⊗◌, ◌⊕◌, ◌⊛◌}
@@ -19,7 +19,7 @@ use Rattle.sq_parse.specs.Grammar.{Limits, shipped}
 use Rattle.sq_parse.specs.Spelling.{unlimited}
 use Rattle.sq_parse.specs.Reader as read
 use Rattle.sq_parse.specs.Fault.{is_large}
-use Rattle.sq_parse.proofs.Marks.{apart_at, within_at, within_self}
+use Rattle.sq_token.proofs.Marks.{apart_at, within_at, within_self}
 use Rattle.sq_parse.proofs.Exact.{Full, Full-either, Full-gives, Full-left, Full-right, Full-number, Full-token, Ok-value, Err-Ok, no_number}
 use Rattle.sq_parse.proofs.Exact as exact
 use Rattle.sq_parse.proofs.Loops.{Shrinks-exact}

@@ -4,8 +4,8 @@ use Rattle.sq_parse.specs.declared.stop.Stop.TheVariants as stop
 use Rattle.sq_parse.specs.declared.parser.ParseFault.{ParseFault}
 use Rattle.sq_parse.specs.declared.parser.ParseFault.TheVariants as fault
 use Rattle.sq_parse.specs.declared.tree.Script.{Script}
-use Rattle.sq_parse.specs.Form.{Text}
-use Rattle.sq_parse.specs.Tok.{Tok, toks, head, done}
+use Rattle.sq_token.specs.Form.{Text}
+use Rattle.sq_token.specs.Tok.{Tok, toks, head, done}
 use Rattle.sq_parse.specs.Grammar.{shipped}
 use Rattle.sq_parse.specs.Reading.{Outcome}
 use Rattle.sq_parse.specs.Reader as read

@@ -1,10 +1,10 @@
 -- The places of tokens rise.
 use Rattle.std.proofs.Common.{◌≡◌, ◌⊎◌, inl, inr, ℕ, zero, suc, ◌+◌, ◌-◌, ◌<◌, ◌≤◌, List, [], ◌∷◌, ◌++◌, length, map, refl, ap, sym, subst, ◌∙◌, arith}
-use Rattle.sq_parse.specs.declared.form.Form.{Form}
-use Rattle.sq_parse.specs.declared.form.Form.TheVariants as form
-use Rattle.sq_parse.specs.Form.{Text, front}
-use Rattle.sq_parse.specs.Piece.{Piece, piece_then, pieces_from, pieces}
-use Rattle.sq_parse.specs.Tok.{Tok, tok_of, toks, head, behind}
+use Rattle.sq_token.specs.declared.form.Form.{Form}
+use Rattle.sq_token.specs.declared.form.Form.TheVariants as form
+use Rattle.sq_token.specs.Form.{Text, front}
+use Rattle.sq_token.specs.Piece.{Piece, piece_then, pieces_from, pieces}
+use Rattle.sq_token.specs.Tok.{Tok, tok_of, toks, head, behind}
 use Rattle.sq_parse.specs.Parse.{place_in}
 
 -- the places rise from the first number on, and lie below the second

@@ -1,13 +1,13 @@
 -- The readers of predicates are exact for their rules.
 use Rattle.std.proofs.Common.{◌≡◌, Bool, true, false, ◌&&◌, ◌||◌, inl, inr, ℕ, List, ◌∷◌, ◌++◌, Option, Some, None, is_some, refl, append_assoc}
-use Rattle.sq_parse.specs.declared.mark.Mark.{Mark}
-use Rattle.sq_parse.specs.declared.mark.Mark.TheVariants as k
+use Rattle.sq_token.specs.declared.mark.Mark.{Mark}
+use Rattle.sq_token.specs.declared.mark.Mark.TheVariants as k
 use Rattle.sq_parse.specs.declared.tree.Operand.{Operand}
 use Rattle.sq_parse.specs.declared.tree.Operand.TheVariants as o
 use Rattle.sq_parse.specs.declared.tree.Tree.{Tree}
 use Rattle.sq_parse.specs.declared.tree.Tree.TheVariants as t
-use Rattle.sq_parse.specs.Mark.{is, same, is_name, is_sign, is_comparison}
-use Rattle.sq_parse.specs.Tok.{Tok, next}
+use Rattle.sq_token.specs.Mark.{is, same, is_name, is_sign, is_comparison}
+use Rattle.sq_token.specs.Tok.{Tok, next}
 use Rattle.sq_parse.specs.Tree.{name_of, number_term, column_term, sum_of, begin_of, comparison_by}
 use Rattle.sq_parse.specs.Rules as rule
 use Rattle.sq_parse.specs.Rules.{Then, ◌⊗◌, ◌⊕◌, ◌⊛◌}
@@ -16,7 +16,7 @@ use Rattle.sq_parse.specs.Reading.{Parser, ◌>>=◌, ◌<$>◌, ◌<+>◌}
 use Rattle.sq_parse.specs.Grammar as g
 use Rattle.sq_parse.specs.Grammar.{Limits}
 use Rattle.sq_parse.specs.Reader as read
-use Rattle.sq_parse.proofs.Marks.{within, within_at, apart, apart_at, all_within}
+use Rattle.sq_token.proofs.Marks.{within, within_at, apart, apart_at, all_within}
 use Rattle.sq_parse.proofs.Exact.{Exact, Chain, token, number, weaker, gives, followed, chained, along, by_test, either, maybe, repeated, after, closed, list_exact}
 use Rattle.sq_parse.proofs.OperandsExact.{anything, ends_term, ends_operand, begins_term, begins_operand, name, column, signed_term, Full-signed, term, operand, simple}
 

@@ -1,11 +1,11 @@
 -- Where the readers of predicates stop.
 use Rattle.std.proofs.Common.{◌≡◌, Bool, true, false, ◌&&◌, cond, inl, ⊎_elim, ◌+◌, ◌<◌, ◌≤◌, List, [], ◌∷◌, ◌++◌, length, Option, is_some, Err, refl, ap, sym, ◌∙◌, arith, length-append}
-use Rattle.sq_parse.specs.declared.mark.Mark.TheVariants as k
+use Rattle.sq_token.specs.declared.mark.Mark.TheVariants as k
 use Rattle.sq_parse.specs.declared.stop.Stop.{Stop}
 use Rattle.sq_parse.specs.declared.tree.Operand.{Operand}
 use Rattle.sq_parse.specs.declared.tree.Tree.TheVariants as t
-use Rattle.sq_parse.specs.Mark.{is, same, is_name, is_comparison}
-use Rattle.sq_parse.specs.Tok.{Tok, next}
+use Rattle.sq_token.specs.Mark.{is, same, is_name, is_comparison}
+use Rattle.sq_token.specs.Tok.{Tok, next}
 use Rattle.sq_parse.specs.Tree.{begin_of, comparison_by}
 use Rattle.sq_parse.specs.Rules as rule
 use Rattle.sq_parse.specs.Rules.{◌⊗◌, ◌⊕◌, ◌⊛◌}
@@ -15,7 +15,7 @@ use Rattle.sq_parse.specs.Grammar as g
 use Rattle.sq_parse.specs.Grammar.{Limits, shipped}
 use Rattle.sq_parse.specs.Spelling.{unlimited}
 use Rattle.sq_parse.specs.Reader as read
-use Rattle.sq_parse.proofs.Marks.{all_within, within_self}
+use Rattle.sq_token.proofs.Marks.{all_within, within_self}
 use Rattle.sq_parse.proofs.Exact.{Full, Full-gives, Full-left, Full-after, Chain}
 use Rattle.sq_parse.proofs.Exact as exact
 use Rattle.sq_parse.proofs.Loops.{Shrinks, Shrinks-exact}

@@ -1,12 +1,12 @@
 -- What stands before the place where reading a script stops, and what the fault there depends on.
 use Rattle.std.proofs.Common.{◌≡◌, ◌≢◌, true, false, ⊎_elim, ℕ, suc, ◌+◌, ◌≤◌, List, [], ◌∷◌, ◌++◌, length, length-append, Ok, Err, refl, ap, ap₂, sym, subst, ◌∙◌, append-nil, arith}
-use Rattle.sq_parse.specs.declared.mark.Mark.{Mark}
-use Rattle.sq_parse.specs.declared.mark.Mark.TheVariants as k
+use Rattle.sq_token.specs.declared.mark.Mark.{Mark}
+use Rattle.sq_token.specs.declared.mark.Mark.TheVariants as k
 use Rattle.sq_parse.specs.declared.stop.Stop.{Stop}
 use Rattle.sq_parse.specs.declared.stop.Stop.TheVariants as stop
 use Rattle.sq_parse.specs.declared.tree.Script.{Script}
-use Rattle.sq_parse.specs.Mark.{is}
-use Rattle.sq_parse.specs.Tok.{Tok, head, next, behind, done}
+use Rattle.sq_token.specs.Mark.{is}
+use Rattle.sq_token.specs.Tok.{Tok, head, next, behind, done}
 use Rattle.sq_parse.specs.Grammar as g
 use Rattle.sq_parse.specs.Grammar.{Limits, shipped}
 use Rattle.sq_parse.specs.Spelling.{unlimited}

@@ -1,13 +1,13 @@
 -- Where the reader of scripts stops.
 use Rattle.std.proofs.Common.{◌≡◌, Bool, true, false, not, cond, ⊎_elim, ℕ, zero, suc, ◌<◌, ◌≤◌, List, [], ◌∷◌, ◌++◌, length, Some, None, Ok, Err, refl, ap, sym, subst, ◌∙◌, append_assoc, append-nil, arith}
-use Rattle.sq_parse.specs.declared.mark.Mark.{Mark}
-use Rattle.sq_parse.specs.declared.mark.Mark.TheVariants as k
+use Rattle.sq_token.specs.declared.mark.Mark.{Mark}
+use Rattle.sq_token.specs.declared.mark.Mark.TheVariants as k
 use Rattle.sq_parse.specs.declared.stop.Stop.{Stop}
 use Rattle.sq_parse.specs.declared.stop.Stop.TheVariants as stop
 use Rattle.sq_parse.specs.declared.tree.Statement.{Statement}
 use Rattle.sq_parse.specs.declared.tree.Script.{Script}
-use Rattle.sq_parse.specs.Mark.{is, same}
-use Rattle.sq_parse.specs.Tok.{Tok, next, done}
+use Rattle.sq_token.specs.Mark.{is, same}
+use Rattle.sq_token.specs.Tok.{Tok, next, done}
 use Rattle.sq_parse.specs.Rules as rule
 use Rattle.sq_parse.specs.Rules.{Then, ◌⊗◌, ◌⊕◌, ◌⊛◌}
 use Rattle.sq_parse.specs.Reading as reading
@@ -16,7 +16,7 @@ use Rattle.sq_parse.specs.Grammar as g
 use Rattle.sq_parse.specs.Grammar.{shipped}
 use Rattle.sq_parse.specs.Spelling.{unlimited}
 use Rattle.sq_parse.specs.Reader as read
-use Rattle.sq_parse.proofs.Marks.{apart_at, within_self}
+use Rattle.sq_token.proofs.Marks.{apart_at, within_self}
 use Rattle.sq_parse.proofs.Exact.{Chain, Err-Ok}
 use Rattle.sq_parse.proofs.Places.{next_seen, done_same}
 use Rattle.sq_parse.proofs.Tracks.{Faults, Failed, Tracks, Err-value, if_is, any, unstarred, not_large, token, along, gives, chained}

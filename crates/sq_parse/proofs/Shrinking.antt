@@ -1,8 +1,8 @@
 -- What is read in a loop takes a token at least, and doesn't begin at the end.
 use Rattle.std.proofs.Common.{◌≡◌, true, false, ℕ, refl, arith}
 use Rattle.std.proofs.lemmas.Bool.Decides.{nat_tests}
-use Rattle.sq_parse.specs.declared.mark.Mark.TheVariants as k
-use Rattle.sq_parse.specs.Mark.{is, same, is_sign}
+use Rattle.sq_token.specs.declared.mark.Mark.TheVariants as k
+use Rattle.sq_token.specs.Mark.{is, same, is_sign}
 use Rattle.sq_parse.specs.Grammar as g
 use Rattle.sq_parse.specs.Grammar.{shipped}
 use Rattle.sq_parse.specs.Reader as read

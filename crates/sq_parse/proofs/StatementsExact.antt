@@ -1,12 +1,12 @@
 -- The reader of statements is exact for its rule, and the reader of scripts for scripts of few statements.
 use Rattle.std.proofs.Common.{◌≡◌, Bool, true, false, ◌||◌, ⊎_elim, ℕ, zero, suc, ◌≤◌, List, [], ◌∷◌, ◌++◌, length, Option, Some, None, unwrap_or, Ok, Err, refl, ap, sym, subst, cond, ◌∙◌, append_assoc, append-nil, arith}
-use Rattle.sq_parse.specs.declared.mark.Mark.{Mark}
-use Rattle.sq_parse.specs.declared.mark.Mark.TheVariants as k
+use Rattle.sq_token.specs.declared.mark.Mark.{Mark}
+use Rattle.sq_token.specs.declared.mark.Mark.TheVariants as k
 use Rattle.sq_parse.specs.declared.stop.Stop.TheVariants as stop
 use Rattle.sq_parse.specs.declared.tree.Statement.{Statement}
 use Rattle.sq_parse.specs.declared.tree.Script.{Script}
-use Rattle.sq_parse.specs.Mark.{is, same, is_name}
-use Rattle.sq_parse.specs.Tok.{Tok, next, behind, done}
+use Rattle.sq_token.specs.Mark.{is, same, is_name}
+use Rattle.sq_token.specs.Tok.{Tok, next, behind, done}
 use Rattle.sq_parse.specs.Tree.{joined_on, statement_of}
 use Rattle.sq_parse.specs.Rules as rule
 use Rattle.sq_parse.specs.Rules.{Then, ◌⊗◌, ◌⊕◌, ◌⊛◌}

@@ -1,8 +1,8 @@
 -- Where the readers of statements and scripts stop.
 use Rattle.std.proofs.Common.{◌≡◌, ℕ, ◌<◌, ◌≤◌, [], ◌∷◌, unwrap_or, refl}
-use Rattle.sq_parse.specs.declared.mark.Mark.TheVariants as k
+use Rattle.sq_token.specs.declared.mark.Mark.TheVariants as k
 use Rattle.sq_parse.specs.declared.stop.Stop.TheVariants as stop
-use Rattle.sq_parse.specs.Mark.{is, same}
+use Rattle.sq_token.specs.Mark.{is, same}
 use Rattle.sq_parse.specs.Tree.{joined_on, statement_of}
 use Rattle.sq_parse.specs.Rules as rule
 use Rattle.sq_parse.specs.Rules.{Then, ◌⊗◌, ◌⊕◌, ◌⊛◌}
@@ -10,7 +10,7 @@ use Rattle.sq_parse.specs.Grammar as g
 use Rattle.sq_parse.specs.Grammar.{Limits, shipped}
 use Rattle.sq_parse.specs.Spelling.{unlimited}
 use Rattle.sq_parse.specs.Reader as read
-use Rattle.sq_parse.proofs.Marks.{within_self}
+use Rattle.sq_token.proofs.Marks.{within_self}
 use Rattle.sq_parse.proofs.Loops.{Shrinks, Shrinks-exact}
 use Rattle.sq_parse.proofs.Shrinking.{nested, no_join}
 use Rattle.sq_parse.proofs.StatementsExact as statements_exact

@@ -1,13 +1,13 @@
 -- What reading functions give, step by step, for the functions that call one another.
 use Rattle.std.proofs.Common.{◌≡◌, ◌≢◌, true, false, ℕ, zero, suc, ◌-◌, ◌<◌, List, [], ◌∷◌, ◌++◌, length, drop, Result, Ok, Err, refl, ap, sym, ◌∙◌, arith}
 use Rattle.std.specs.Result.{IsErrAnd}
-use Rattle.sq_parse.specs.declared.mark.Mark.{Mark}
-use Rattle.sq_parse.specs.declared.mark.Mark.TheVariants as k
+use Rattle.sq_token.specs.declared.mark.Mark.{Mark}
+use Rattle.sq_token.specs.declared.mark.Mark.TheVariants as k
 use Rattle.sq_parse.specs.declared.stop.Stop.{Stop}
 use Rattle.sq_parse.specs.declared.stop.Stop.TheVariants as stop
 use Rattle.sq_parse.specs.declared.tree.Tree.{Tree}
-use Rattle.sq_parse.specs.Mark.{is}
-use Rattle.sq_parse.specs.Tok.{Tok, next, behind, done}
+use Rattle.sq_token.specs.Mark.{is}
+use Rattle.sq_token.specs.Tok.{Tok, next, behind, done}
 use Rattle.sq_parse.specs.Grammar.{Limits}
 use Rattle.sq_parse.specs.Reading.{Parser, Outcome, and_then, pure, after, enclosed, many, separated, Reads, ReadsMore, ◌<$>◌}
 use Rattle.sq_parse.specs.Reader as read

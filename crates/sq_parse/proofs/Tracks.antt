@@ -1,18 +1,18 @@
 -- What a reading function does where it stops: which part of its rule stands before the fault, what the fault
 -- depends on, and that no number before it is too large. A reading function with limits stands beside one without.
 use Rattle.std.proofs.Common.{◌≡◌, Bool, true, false, not, cond, ◌⊎◌, inl, inr, ⊎_elim, List, [], ◌∷◌, ◌++◌, Result, Ok, Err, refl, ap, sym, subst, ◌∙◌, append_assoc}
-use Rattle.sq_parse.specs.declared.mark.Mark.{Mark}
-use Rattle.sq_parse.specs.declared.mark.Mark.TheVariants as k
+use Rattle.sq_token.specs.declared.mark.Mark.{Mark}
+use Rattle.sq_token.specs.declared.mark.Mark.TheVariants as k
 use Rattle.sq_parse.specs.declared.stop.Stop.{Stop}
 use Rattle.sq_parse.specs.declared.stop.Stop.TheVariants as stop
-use Rattle.sq_parse.specs.Mark.{is}
-use Rattle.sq_parse.specs.Tok.{Tok, head, next, behind}
+use Rattle.sq_token.specs.Mark.{is}
+use Rattle.sq_token.specs.Tok.{Tok, head, next, behind}
 use Rattle.sq_parse.specs.Rules as rule
 use Rattle.sq_parse.specs.Rules.{Rule, Then, ◌⊗◌, ◌⊕◌, ◌⊛◌}
 use Rattle.sq_parse.specs.Reading as read
 use Rattle.sq_parse.specs.Reading.{Parser, Outcome, and_then, ◌>>=◌, ◌<$>◌, ◌<+>◌}
 use Rattle.sq_parse.specs.Fault.{last}
-use Rattle.sq_parse.proofs.Marks.{within, within_at, apart, apart_at, within_self}
+use Rattle.sq_token.proofs.Marks.{within, within_at, apart, apart_at, within_self}
 use Rattle.sq_parse.proofs.Exact.{Chain, Ok-value, Err-Ok, if_ok, and_then_ok}
 use Rattle.sq_parse.proofs.Places.{fits, first, Clean, view, last-append, next-append, next_seen, view_same, Clean-append}
 

@@ -1,12 +1,12 @@
 -- For the proofs of the parser alone: what a cursor shows, the tokens that are left.
 use Rattle.std.specs.Prelude.{◌≡◌, ◌+◌, ◌<◌, ◌≤◌, List, [], ◌∷◌, length, take, Option, Some, None, MatchOption}
-use Rattle.sq_parse.specs.declared.piece.Drawn.{Drawn}
-use Rattle.sq_parse.specs.declared.mark.Mark.TheVariants as k
+use Rattle.sq_token.specs.declared.piece.Drawn.{Drawn}
+use Rattle.sq_token.specs.declared.mark.Mark.TheVariants as k
 use Rattle.sq_parse.specs.declared.cursor.Cursor.TheInside.{Inside}
-use Rattle.sq_parse.specs.Form.{IsCut}
-use Rattle.sq_parse.specs.Mark.{mark_of}
-use Rattle.sq_parse.specs.Piece.{piece_of}
-use Rattle.sq_parse.specs.Tok.{Tok, tok_of, toks}
+use Rattle.sq_token.specs.Form.{IsCut}
+use Rattle.sq_token.specs.Mark.{mark_of}
+use Rattle.sq_token.specs.Piece.{piece_of}
+use Rattle.sq_token.specs.Tok.{Tok, tok_of, toks}
 
 -- the token that was drawn last, and those behind it
 abbrev pub drawn_toks : Option Drawn → List Tok

@@ -1,6 +1,6 @@
 -- The grammar of scripts: which lists of tokens stand for which trees.
 use Rattle.std.specs.Prelude.{ℕ, zero, suc, Bool, nat_le, [], ◌∷◌, Some, None, is_some, option_map, unwrap_or, false}
-use Rattle.sq_parse.specs.declared.mark.Mark.TheVariants as k
+use Rattle.sq_token.specs.declared.mark.Mark.TheVariants as k
 use Rattle.sq_parse.specs.declared.tree.Name.{Name}
 use Rattle.sq_parse.specs.declared.tree.ColRef.{ColRef}
 use Rattle.sq_parse.specs.declared.tree.Items.{Items}
@@ -16,7 +16,7 @@ use Rattle.sq_parse.specs.declared.tree.Operand.{Operand}
 use Rattle.sq_parse.specs.declared.tree.Operand.TheVariants as o
 use Rattle.sq_parse.specs.declared.tree.Tree.{Tree}
 use Rattle.sq_parse.specs.declared.tree.Tree.TheVariants as t
-use Rattle.sq_parse.specs.Mark.{is, is_name, is_sign, is_comparison, is_truth_word, is_way, is_end}
+use Rattle.sq_token.specs.Mark.{is, is_name, is_sign, is_comparison, is_truth_word, is_way, is_end}
 use Rattle.sq_parse.specs.Tree.{name_of, column_of, number_term, column_term, signed, sum_of, begin_of, comparison_by, tested, all_of, any_of, source_of, joined_on, way_of, statement_of}
 use Rattle.sq_parse.specs.Rules.{Rule, token, mark, number, ◌⊗◌, ◌⊕◌, ◌⊛◌, optional, many, after, separated, list_of, enclosed, nothing}
 

@@ -1,9 +1,9 @@
-pub mod Form
-pub mod Piece
-pub mod Quoted
-pub mod Token
-pub mod Mark
-pub mod Tok
+pub use Rattle.sq_token.specs.Form
+pub use Rattle.sq_token.specs.Piece
+pub use Rattle.sq_token.specs.Quoted
+pub use Rattle.sq_token.specs.Token
+pub use Rattle.sq_token.specs.Mark
+pub use Rattle.sq_token.specs.Tok
 pub mod Cursor
 pub mod Rules
 pub mod Reading

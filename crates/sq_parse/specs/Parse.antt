@@ -7,8 +7,8 @@ use Rattle.sq_parse.specs.declared.stop.Stop.TheVariants as stop
 use Rattle.sq_parse.specs.declared.parser.ParseFault.{ParseFault}
 use Rattle.sq_parse.specs.declared.parser.ParseFault.TheVariants as fault
 use Rattle.sq_parse.specs.declared.tree.Script.{Script}
-use Rattle.sq_parse.specs.Form.{Text}
-use Rattle.sq_parse.specs.Tok.{Tok, toks}
+use Rattle.sq_token.specs.Form.{Text}
+use Rattle.sq_token.specs.Tok.{Tok, toks}
 use Rattle.sq_parse.specs.Grammar.{shipped}
 use Rattle.sq_parse.specs.Spelling.{Spelled}
 use Rattle.sq_parse.specs.Fault.{IsFault}

@@ -1,8 +1,8 @@
 -- For the laws and proofs of the parser: what its functions read, each by the name of its rule of the grammar.
 use Rattle.std.specs.Prelude.{ℕ, ℤ, pos, nat_le, zero, suc, Bool, ◌&&◌, ◌||◌, if◌then◌else◌, List, [], ◌∷◌, Option, Some, None, is_some, option_map, unwrap_or, false, Ok, Err}
 use Rattle.sq_value.specs.declared.value.Truth.{Truth}
-use Rattle.sq_parse.specs.declared.mark.Mark.{Mark}
-use Rattle.sq_parse.specs.declared.mark.Mark.TheVariants as k
+use Rattle.sq_token.specs.declared.mark.Mark.{Mark}
+use Rattle.sq_token.specs.declared.mark.Mark.TheVariants as k
 use Rattle.sq_parse.specs.declared.stop.Stop.TheVariants as stop
 use Rattle.sq_parse.specs.declared.tree.Name.{Name}
 use Rattle.sq_parse.specs.declared.tree.ColRef.{ColRef}
@@ -19,8 +19,8 @@ use Rattle.sq_parse.specs.declared.tree.Operand.{Operand}
 use Rattle.sq_parse.specs.declared.tree.Operand.TheVariants as o
 use Rattle.sq_parse.specs.declared.tree.Tree.{Tree}
 use Rattle.sq_parse.specs.declared.tree.Tree.TheVariants as t
-use Rattle.sq_parse.specs.Mark.{is, is_name, is_sign, is_comparison, is_truth_word, is_way, is_end}
-use Rattle.sq_parse.specs.Tok.{Tok, next, behind, done}
+use Rattle.sq_token.specs.Mark.{is, is_name, is_sign, is_comparison, is_truth_word, is_way, is_end}
+use Rattle.sq_token.specs.Tok.{Tok, next, behind, done}
 use Rattle.sq_parse.specs.Tree.{name_of, column_of, number_term, column_term, signed, sum_of, begin_of, comparison_by, truth_by, tested, all_of, any_of, source_of, joined_on, statement_of}
 use Rattle.sq_parse.specs.Reading.{Parser, pure, ◌>>=◌, ◌<$>◌, ◌<+>◌, token, mark, number, choose, optional, many, after, separated, list_of, enclosed, refuse}
 use Rattle.sq_parse.specs.Grammar.{Limits}

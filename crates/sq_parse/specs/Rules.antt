@@ -1,9 +1,9 @@
 -- What the rules of a grammar are made of. A rule says which lists of tokens stand for which values.
 use Rattle.std.specs.Prelude.{◌≡◌, Bool, true, ◌⊎◌, ℕ, List, [], ◌∷◌, ◌++◌, Option, Some, None}
-use Rattle.sq_parse.specs.declared.mark.Mark.{Mark}
-use Rattle.sq_parse.specs.declared.mark.Mark.TheVariants as k
-use Rattle.sq_parse.specs.Mark.{is}
-use Rattle.sq_parse.specs.Tok.{Tok}
+use Rattle.sq_token.specs.declared.mark.Mark.{Mark}
+use Rattle.sq_token.specs.declared.mark.Mark.TheVariants as k
+use Rattle.sq_token.specs.Mark.{is}
+use Rattle.sq_token.specs.Tok.{Tok}
 
 abbrev pub Rule : Type 0 → Type 1
 Rule A = List Tok → A → Type 0

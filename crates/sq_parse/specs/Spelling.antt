@@ -1,8 +1,8 @@
 -- Which scripts a text spells: its tokens are those of the script by the grammar.
 use Rattle.std.specs.Prelude.{◌≡◌, ◌≤◌, ℕ, true, List, length}
 use Rattle.sq_parse.specs.declared.tree.Script.{Script}
-use Rattle.sq_parse.specs.Form.{Text}
-use Rattle.sq_parse.specs.Tok.{Tok, toks}
+use Rattle.sq_token.specs.Form.{Text}
+use Rattle.sq_token.specs.Tok.{Tok, toks}
 use Rattle.sq_parse.specs.Grammar as g
 use Rattle.sq_parse.specs.Grammar.{Limits, shipped}
 

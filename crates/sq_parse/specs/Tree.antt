@@ -5,8 +5,8 @@ use Rattle.sq_value.specs.declared.value.Cmp.TheVariants as cmp
 use Rattle.sq_value.specs.declared.value.SortWay.{SortWay}
 use Rattle.sq_value.specs.declared.value.Truth.{Truth}
 use Rattle.sq_value.specs.declared.value.Truth.TheVariants as truth
-use Rattle.sq_parse.specs.declared.mark.Mark.{Mark}
-use Rattle.sq_parse.specs.declared.mark.Mark.TheVariants as k
+use Rattle.sq_token.specs.declared.mark.Mark.{Mark}
+use Rattle.sq_token.specs.declared.mark.Mark.TheVariants as k
 use Rattle.sq_parse.specs.declared.tree.Name.{Name}
 use Rattle.sq_parse.specs.declared.tree.ColRef.{ColRef}
 use Rattle.sq_parse.specs.declared.tree.Items.{Items}
@@ -18,8 +18,8 @@ use Rattle.sq_parse.specs.declared.tree.Operand.{Operand}
 use Rattle.sq_parse.specs.declared.tree.Operand.TheVariants as o
 use Rattle.sq_parse.specs.declared.tree.Tree.{Tree}
 use Rattle.sq_parse.specs.declared.tree.Tree.TheVariants as t
-use Rattle.sq_parse.specs.Mark.{is}
-use Rattle.sq_parse.specs.Tok.{Tok}
+use Rattle.sq_token.specs.Mark.{is}
+use Rattle.sq_token.specs.Tok.{Tok}
 
 -- ---- names and columns
 

@@ -3,16 +3,16 @@
 ghost use Rattle.std.specs.Prelude.{◌≡◌};
 ghost use Rattle.sq_parse.specs.Grammar.{shipped};
 ghost use Rattle.sq_parse.specs.Reading.{Reads, ReadsMore};
-ghost use Rattle.sq_parse.specs.Mark.{is};
+ghost use Rattle.sq_token.specs.Mark.{is};
 ghost use Rattle.sq_parse.specs.Reading as reading;
 ghost use Rattle.sq_parse.specs.Reader as spec;
 ghost use Rattle.sq_parse.specs.Tree as tree;
 
 use crate::cursor::Cursor;
-use crate::mark::{Mark, same};
 use crate::predicate::predicate;
 use crate::stop::Stop;
 use crate::tree::Tree;
+use sq_token::{Mark, same};
 use sq_value::Truth;
 use sqlite_items::{Boxed, Items as List};
 use std::alloc::Global;

@@ -1,16 +1,13 @@
 //! A cursor over the tokens of a script, which draws each as it is reached.
 
 ghost use Rattle.std.specs.Prelude.{◌≡◌, ◌+◌, ◌<◌, ◌≤◌, length, take, IfOk, IfSome, MatchOption, min, ⊤, if◌then◌else◌};
-ghost use Rattle.sq_parse.specs.Tok as spec;
+ghost use Rattle.sq_token.specs.Tok as spec;
 ghost use Rattle.sq_parse.specs.Cursor as cursor;
-ghost use Rattle.sq_parse.specs.Mark.{same};
+ghost use Rattle.sq_token.specs.Mark.{same};
 ghost use Rattle.sq_parse.specs.Reading.{Expects};
 
-use crate::form::Form;
-use crate::mark::{self, Mark, mark_of};
-use crate::piece::{Drawn, draw};
 use crate::stop::Stop;
-use crate::token::{name_content, text_content};
+use sq_token::{Drawn, Form, Mark, draw, mark_of, name_content, text_content};
 use sq_value::{Memory, SqText};
 use std::alloc::Global;
 use std::marker::Model;
@@ -27,7 +24,7 @@ pub struct Cursor<'a> {
 
 impl<'a> Model for Cursor<'a> {
     ghost use Rattle.std.specs.Prelude.{List};
-    ghost use Rattle.sq_parse.specs.Tok.{Tok};
+    ghost use Rattle.sq_token.specs.Tok.{Tok};
 
     ghost Value = { List Tok };
 
@@ -49,7 +46,7 @@ fn mark_ahead(ahead: Option<Drawn<'_>>) -> Mark
 }
 
 // The number that digits write, or `TOO_LARGE` where it isn't below that.
-#[tactic(auto, using(crate::proofs::CursorLemmas::capped_step), unfolding(crate::specs::Tok::decimal))]
+#[tactic(auto, using(crate::proofs::CursorLemmas::capped_step), unfolding(sq_token::specs::Tok::decimal))]
 fn number(digits: &[u8]) -> u64
     ensures { result ≡ min (spec.decimal digits.now) TOO_LARGE }
 {
@@ -96,7 +93,7 @@ impl<'a> Cursor<'a> {
     pub fn sees(&self, mark: Mark) -> bool
         ensures { result ≡ same (spec.next self.now) mark }
     {
-        mark::same(self.mark, mark)
+        sq_token::same(self.mark, mark)
     }
 
     /// What the token behind the next one is.

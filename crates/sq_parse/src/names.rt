@@ -4,9 +4,9 @@ ghost use Rattle.sq_parse.specs.Reading.{Reads};
 ghost use Rattle.sq_parse.specs.Reader as spec;
 
 use crate::cursor::Cursor;
-use crate::mark::{Mark, is_name};
 use crate::stop::Stop;
 use crate::tree::{ColRef, Name};
+use sq_token::{Mark, is_name};
 use std::alloc::Global;
 
 /// A name.

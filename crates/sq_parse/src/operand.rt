@@ -3,17 +3,17 @@
 ghost use Rattle.std.specs.Prelude.{◌≡◌, Ok, IfOk, IfErr, [], ◌∷◌, ◌≤◌};
 ghost use Rattle.sq_parse.specs.Grammar.{shipped};
 ghost use Rattle.sq_parse.specs.Reading.{Reads, ReadsMore};
-ghost use Rattle.sq_parse.specs.Mark.{is_sign};
+ghost use Rattle.sq_token.specs.Mark.{is_sign};
 ghost use Rattle.sq_parse.specs.Reading as reading;
 ghost use Rattle.sq_parse.specs.Reader as spec;
 ghost use Rattle.sq_parse.specs.Tree as tree;
-ghost use Rattle.sq_parse.specs.Tok.{behind, next, head};
+ghost use Rattle.sq_token.specs.Tok.{behind, next, head};
 
 use crate::cursor::Cursor;
-use crate::mark::{Mark, is_sign, same};
 use crate::names::column;
 use crate::stop::Stop;
 use crate::tree::{ColRef, Operand, RawTerm};
+use sq_token::{Mark, is_sign, same};
 use sqlite_items::Items as List;
 use std::alloc::Global;
 

@@ -7,11 +7,11 @@ ghost use Rattle.sq_parse.specs.Reader as spec;
 ghost use Rattle.sq_parse.specs.Tree as tree;
 
 use crate::cursor::Cursor;
-use crate::mark::{Mark, is_comparison, is_name, same};
 use crate::names::name;
 use crate::operand::{operand, simple};
 use crate::stop::Stop;
 use crate::tree::{Operand, Tree};
+use sq_token::{Mark, is_comparison, is_name, same};
 use sq_value::Cmp;
 use sqlite_items::Items as List;
 use std::alloc::Global;

@@ -6,10 +6,10 @@ ghost use Rattle.sq_parse.specs.Reader as spec;
 ghost use Rattle.sq_parse.specs.Tree as tree;
 
 use crate::cursor::Cursor;
-use crate::mark::{Mark, is_name, same};
 use crate::names::{column, name};
 use crate::stop::Stop;
 use crate::tree::{ColRef, Item, Items, Name, OrderItem, Source};
+use sq_token::{Mark, is_name, same};
 use sq_value::{SortWay, SqText};
 use sqlite_items::Items as List;
 use std::alloc::Global;

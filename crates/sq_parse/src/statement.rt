@@ -2,17 +2,17 @@
 
 ghost use Rattle.std.specs.Prelude.{◌≡◌, Err};
 ghost use Rattle.sq_parse.specs.Grammar.{shipped};
-ghost use Rattle.sq_parse.specs.Mark as marks;
+ghost use Rattle.sq_token.specs.Mark as marks;
 ghost use Rattle.sq_parse.specs.Reading.{Reads, ReadsMore};
 ghost use Rattle.sq_parse.specs.Reading as reading;
 ghost use Rattle.sq_parse.specs.Reader as spec;
 
 use crate::condition::condition;
 use crate::cursor::Cursor;
-use crate::mark::{Mark, same};
 use crate::select::{order, select_list, source};
 use crate::stop::Stop;
 use crate::tree::{Script, Source, Statement, Tree};
+use sq_token::{Mark, same};
 use sqlite_items::Items as List;
 use std::alloc::Global;
 

@@ -1,9 +1,9 @@
 use Rattle.std.proofs.Common.{rules, ◌≡◌, ◌-◌, ◌∙◌, [], true, false, refl, ap, sym, subst, arith}
-use Rattle.sq_parse.specs.declared.mark.Mark.TheVariants as k
+use Rattle.sq_token.specs.declared.mark.Mark.TheVariants as k
 use Rattle.sq_parse.specs.declared.tree.Tree.TheVariants as tree
 use Rattle.sq_parse.specs.Grammar.{shipped}
-use Rattle.sq_parse.specs.Mark.{is}
-use Rattle.sq_parse.specs.Tok.{next}
+use Rattle.sq_token.specs.Mark.{is}
+use Rattle.sq_token.specs.Tok.{next}
 use Rattle.sq_parse.specs.Tree.{all_of, any_of}
 use Rattle.sq_parse.specs.Reading.{after, Reads}
 use Rattle.sq_parse.specs.Reader as read

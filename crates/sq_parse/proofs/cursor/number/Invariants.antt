@@ -1,5 +1,5 @@
 use Rattle.std.proofs.Common.{◌≡◌, min, take}
-use Rattle.sq_parse.specs.Tok.{decimal}
+use Rattle.sq_token.specs.Tok.{decimal}
 use Rattle.sq_parse.proofs.cursor.number.Given as goal
 
 abbrev pub invariant-loop-digit : goal.invariant-loop-digit

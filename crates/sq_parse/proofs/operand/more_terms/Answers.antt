@@ -1,6 +1,6 @@
 use Rattle.std.proofs.Common.{rules}
 use Rattle.sq_parse.specs.Grammar.{shipped}
-use Rattle.sq_parse.specs.Mark.{is_sign}
+use Rattle.sq_token.specs.Mark.{is_sign}
 use Rattle.sq_parse.specs.Reader as read
 use Rattle.sq_parse.proofs.Shrinking.{no_sign, signed_term}
 use Rattle.sq_parse.proofs.Loops.{so_far_more, so_far_all, so_far_error}

@@ -1,6 +1,6 @@
 use Rattle.std.proofs.Common.{length}
 use Rattle.sq_parse.specs.Grammar.{shipped}
-use Rattle.sq_parse.specs.Mark.{is_sign}
+use Rattle.sq_token.specs.Mark.{is_sign}
 use Rattle.sq_parse.specs.Reader as read
 use Rattle.sq_parse.proofs.Loops.{ReadSoFar}
 use Rattle.sq_parse.proofs.operand.more_terms.Given as goal

@@ -1,6 +1,6 @@
 use Rattle.std.proofs.Common.{◌≡◌, ◌∙◌, true, false, ap, sym, refl}
-use Rattle.sq_parse.specs.Mark.{is_comparison}
-use Rattle.sq_parse.specs.Tok.{next}
+use Rattle.sq_token.specs.Mark.{is_comparison}
+use Rattle.sq_token.specs.Tok.{next}
 use Rattle.sq_parse.specs.Reader as read
 use Rattle.sq_parse.proofs.Steps.{hands_on}
 use Rattle.sq_parse.proofs.predicate.comparison.Goals as goal

@@ -1,6 +1,6 @@
 use Rattle.std.proofs.Common.{length}
-use Rattle.sq_parse.specs.declared.mark.Mark.TheVariants as k
-use Rattle.sq_parse.specs.Mark.{is}
+use Rattle.sq_token.specs.declared.mark.Mark.TheVariants as k
+use Rattle.sq_token.specs.Mark.{is}
 use Rattle.sq_parse.specs.Reading.{after}
 use Rattle.sq_parse.specs.Reader as read
 use Rattle.sq_parse.proofs.Loops.{ReadSoFar}

@@ -1,8 +1,8 @@
 use Rattle.std.proofs.Common.{rules, ◌≡◌, ◌∙◌, [], Ok, true, false, sym, ap, refl, arith}
-use Rattle.sq_parse.specs.declared.mark.Mark.TheVariants as k
+use Rattle.sq_token.specs.declared.mark.Mark.TheVariants as k
 use Rattle.sq_parse.specs.Grammar.{shipped}
-use Rattle.sq_parse.specs.Mark.{is}
-use Rattle.sq_parse.specs.Tok.{next, behind, done}
+use Rattle.sq_token.specs.Mark.{is}
+use Rattle.sq_token.specs.Tok.{next, behind, done}
 use Rattle.sq_parse.specs.Reader as read
 use Rattle.sq_parse.proofs.Loops.{more_step, more_done, more_error}
 use Rattle.sq_parse.proofs.Steps.{statements_stop, statements_end, statements_none, statements_more}

@@ -1,7 +1,7 @@
 use Rattle.std.proofs.Common.{◌≡◌, ◌∙◌, rules, true, refl}
-use Rattle.sq_parse.specs.declared.mark.Mark.TheVariants as k
-use Rattle.sq_parse.specs.Mark.{is}
-use Rattle.sq_parse.specs.Tok.{next, behind}
+use Rattle.sq_token.specs.declared.mark.Mark.TheVariants as k
+use Rattle.sq_token.specs.Mark.{is}
+use Rattle.sq_token.specs.Tok.{next, behind}
 use Rattle.sq_parse.specs.Reader as read
 use Rattle.sq_parse.proofs.Steps.{hands_on}
 use Rattle.sq_parse.proofs.statement.where_condition.Goals as goal

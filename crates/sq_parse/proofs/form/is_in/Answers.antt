@@ -1,5 +1,0 @@
-use Rattle.std.proofs.Common.{refl}
-use Rattle.sq_parse.proofs.form.is_in.Goals as goal
-
-pub returns-in-Line : goal.returns-in-Line
-returns-in-Line c = rw c.in-Line.is refl

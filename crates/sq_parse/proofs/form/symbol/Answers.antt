@@ -1,6 +1,0 @@
-use Rattle.std.proofs.Common.{refl}
-use Rattle.sq_parse.proofs.FormLemmas.{symbol_less}
-use Rattle.sq_parse.proofs.form.symbol.Goals as goal
-
-pub returns-in-60-clause-value : goal.returns-in-60-clause-value
-returns-in-60-clause-value c = rw c.in-60.is (symbol_less c.args.next c.if-next-eq62.either)

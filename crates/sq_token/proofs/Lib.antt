@@ -1,0 +1,4 @@
+pub mod FormLemmas
+pub mod PieceLemmas
+pub mod TokenLemmas
+pub mod Marks
