@@ -12,8 +12,6 @@ mod once;
 mod reading;
 mod records;
 mod rows;
-#[cfg(test)]
-mod tests;
 mod types;
 
 pub use fault::TableFault;

@@ -10,4 +10,6 @@ mod conditions;
 #[cfg(test)]
 mod scripts;
 #[cfg(test)]
+mod tables;
+#[cfg(test)]
 mod values;

@@ -1,8 +1,8 @@
-//! Files worked out by hand.
-use crate::read_table;
+//! CSV files and the tables that table_csv reads of them.
 use sq_value::{ColType, Column, Table, Value};
 use std::alloc::{AllocError, Global};
 use std::test::Fail;
+use table_csv::read_table;
 
 /// A column written out: its name, and a letter for its type.
 fn push_column(alloc: Global, text: &mut String, column: &Column) -> Result<(), AllocError> {
