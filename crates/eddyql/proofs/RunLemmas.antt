@@ -23,16 +23,16 @@ use Rattle.run_plan.specs.declared.status.Stage.{Stage}
 use Rattle.run_plan.specs.declared.status.Stage.TheVariants as stage
 use Rattle.run_plan.specs.Stage.{stage_of}
 use Rattle.run_plan.proofs.StageLemmas.{holds_anyway, early_not_done, early_not_write, early_not_usage, early_not_found, MayRefuse-read}
+use Rattle.run_notes.specs.Note.{IsNoted, NotesOf, line_of, names_of}
 use Rattle.run_answers.specs.Answering.{Answers, Tallied, LinesPut, EndsSo}
 use Rattle.run_answers.specs.Wrote.{Wrote}
-use Rattle.run_answers.specs.Seen.{Sink}
+use Rattle.run_answers.specs.Seen.{Sink, sink_seen}
 use Rattle.run_answers.specs.declared.stopping.Stop.{Stop}
 use Rattle.run_answers.specs.declared.stopping.Stop.TheVariants as stop
 use Rattle.run_answers.proofs.ProgressLemmas.{tallied_output}
-use Rattle.eddyql.specs.Asked.{asked, names_of, names_asked, tables_in, is_tallied}
+use Rattle.eddyql.specs.Asked.{asked, names_asked, tables_in, is_tallied}
 use Rattle.eddyql.specs.Ending.{Answered, AnsweredBy, Ended, EndedBy, LinedBy, NotedLines, Finished, stop_at, stop_of}
-use Rattle.eddyql.specs.Lines.{SomeLines, RunOf, Progress, MayFail}
-use Rattle.eddyql.specs.Note.{IsNoted, IsNotedBehind, NotesOf, line_of}
+use Rattle.eddyql.specs.Lines.{SomeLines, RunOf, Progress, IsNotedBehind, MayFail}
 use Rattle.eddyql.specs.Outcome.{IsOutcome, IsRequested, ReachedFor, ReachedBy, task_text}
 use Rattle.eddyql.specs.Run.{IsLate, status_of, text_due}
 use Rattle.eddyql.specs.declared.asking.Request.{Request}
@@ -331,9 +331,15 @@ lines_any : (p : Predicates) (words : List (List ℕ)) (holds : Option (List Fil
 lines_any p words holds before now noted noting stage.Run k = (k.0, inr k.1.0, k.2, omega (arith, k.3))
 lines_any p words holds before now noted noting _ k = k
 
+-- a sink that shows what another one does
+same_sink : (old new : Sink) → new.written ≡ old.written → new.faults ≡ old.faults → new ≡ old
+same_sink old new e f =
+    subst (λ (w : Option (List ℕ)). sink_seen w new.faults ≡ old) (sym e)
+    (subst (λ (n : ℕ). sink_seen old.written n ≡ old) (sym f) refl)
+
 -- a note behind lines
-noted_behind : (old mid new : Sink) (lines line : List ℕ) → Adds old.written mid.written lines → NeverFalls old.faults mid.faults → IsNoted mid new line
-    → IsNotedBehind old new lines line
+noted_behind : (old mid new : Sink) (lines line : List ℕ) → Adds old.written mid.written lines → NeverFalls old.faults mid.faults
+    → IsNoted mid.written new.written mid.faults new.faults line → IsNotedBehind old new lines line
 noted_behind old mid new lines line put counts (inl h) = inl (Adds-twice old.written mid.written new.written lines line put h)
 noted_behind old mid new lines line put counts (inr h) = inr (
   RoseOrFull-earlier old.faults mid.faults new.faults counts h.0,
@@ -343,16 +349,16 @@ noted_behind old mid new lines line put counts (inr h) = inr (
 -- a run of what the words ask for, and its line
 pub finished_noted : (p : Predicates) (words : List (List ℕ)) (a : Request) (old new : Folder) (before now noted noting said : Sink) (s ended : Status)
     → asked words ≡ Some a → EndedBy p words old new before now noted noting (end.By s) → NotedLines p words old.holds before now noted noting (end.By s)
-    → NotesOf (names_of (tables_in a.task)) noting said s ended → Finished p words old new before now noted said ended
+    → NotesOf (names_of (tables_in a.task)) noting.written said.written noting.faults said.faults s ended → Finished p words old new before now noted said ended
 finished_noted p words a old new before now noted noting said s ended is h l n = record {
   ended = ended_by_other p words old new before now rose (MayFail words rose (RoseOrFull noted.faults said.faults)) ended (λ r. inl r)
       (by_either (λ (t : Status). Ended p words old new before now rose t) s ended n.either h (ended_memory p words old new before now rose s h));
   usage = λ none. absurd (never (sym none ∙ is));
   tallied = λ e.
       let k = on_done e l.end' in
-      (k.0, k.1, subst (λ (x : Sink). Adds noted.written x.written k.0) (sym (n.silent e)) k.2);
-  kept = λ e. ap (λ (x : Sink). x.faults) (n.silent e) ∙ (on_done e l.end').3;
-  silent = λ e q. n.silent e ∙ l.quiet q;
+      (k.0, k.1, subst (λ (x : Option (List ℕ)). Adds noted.written x k.0) (sym (n.silent e)) k.2);
+  kept = λ e. n.silent_count e ∙ (on_done e l.end').3;
+  silent = λ e q. same_sink noting said (n.silent e) (n.silent_count e) ∙ l.quiet q;
   noted_lines = λ other. inl (
     put.0,
     put.1,
@@ -408,12 +414,13 @@ finished_cut p words a old new before now noted noting is h l = record {
 -- the same by an equal end
 pub finished_by : (p : Predicates) (words : List (List ℕ)) (a : Request) (old new : Folder) (before now noted noting said : Sink) (e : End) (s ended : Status)
     (tables : List TableWord) → e ≡ end.By s → asked words ≡ Some a → EndedBy p words old new before now noted noting e
-    → NotedLines p words old.holds before now noted noting e → tables ≡ tables_in a.task → NotesOf (names_of tables) noting said s ended
+    → NotedLines p words old.holds before now noted noting e → tables ≡ tables_in a.task
+    → NotesOf (names_of tables) noting.written said.written noting.faults said.faults s ended
     → Finished p words old new before now noted said ended
 finished_by p words a old new before now noted noting said e s ended tables f is h l same n =
     finished_noted p words a old new before now noted noting said s ended is (subst (λ (x : End). EndedBy p words old new before now noted noting x) f h)
     (subst (λ (x : End). NotedLines p words old.holds before now noted noting x) f l)
-    (subst (λ (ts : List TableWord). NotesOf (names_of ts) noting said s ended) same n)
+    (subst (λ (ts : List TableWord). NotesOf (names_of ts) noting.written said.written noting.faults said.faults s ended) same n)
 
 pub finished_by_notes : (p : Predicates) (words : List (List ℕ)) (a : Request) (old new : Folder) (before now noted noting : Sink) (e : End)
     → e ≡ end.ByNotes → asked words ≡ Some a → EndedBy p words old new before now noted noting e → NotedLines p words old.holds before now noted noting e
@@ -429,7 +436,7 @@ same_line names s (inl e) = rw e refl
 same_line names s (inr e) = rw e refl
 
 pub finished_usage : (p : Predicates) (words : List (List ℕ)) (old : Folder) (before noted noting : Sink) (s ended : Status)
-    → (s ≡ status.Memory) ⊎ ((s ≡ status.Usage) × (asked words ≡ None)) → NotesOf [] noted noting s ended
+    → (s ≡ status.Memory) ⊎ ((s ≡ status.Usage) × (asked words ≡ None)) → NotesOf [] noted.written noting.written noted.faults noting.faults s ended
     → Finished p words old old before before noted noting ended
 finished_usage p words old before noted noting s ended why n = record {
   ended = ends why;
@@ -440,7 +447,7 @@ finished_usage p words old before noted noting s ended why n = record {
   noted_lines = λ other. inl (
     [],
     inl (refl, refl),
-    subst (λ (line : List ℕ). IsNoted noted noting line) (same_line (names_asked words) ended (which why)) (n.noted other),
+    subst (λ (line : List ℕ). IsNoted noted.written noting.written noted.faults noting.faults line) (same_line (names_asked words) ended (which why)) (n.noted other),
   );
   cut = λ e calm. absurd (not_write e (which why));
 }

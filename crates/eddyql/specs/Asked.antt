@@ -1,11 +1,12 @@
 -- What the words of the command line ask to be run.
-use Rattle.std.specs.Prelude.{ℕ, Bool, false, List, [], map, Option, option_map}
+use Rattle.std.specs.Prelude.{ℕ, Bool, false, List, [], Option, option_map}
 use Rattle.std.specs.Option.{option_map_or}
 use Rattle.command_line.specs.Form.{command}
 use Rattle.command_line.specs.declared.command.Command.{Command}
 use Rattle.command_line.specs.declared.command.TableWord.{TableWord}
 use Rattle.command_line.specs.declared.command.Task.{Task}
 use Rattle.command_line.specs.declared.command.Task.TheVariants.{Query, Demo}
+use Rattle.run_notes.specs.Note.{names_of}
 use Rattle.run_answers.specs.Settings.{settings_of}
 use Rattle.eddyql.specs.declared.asking.Request.{Request}
 
@@ -22,10 +23,7 @@ abbrev pub tables_in : Task → List TableWord
 tables_in (Query q) = q.tables
 tables_in (Demo rows) = []
 
--- the names of the tables, as they were given
-abbrev pub names_of : List TableWord → List (List ℕ)
-names_of tables = map (λ (t : TableWord). t.name) tables
-
+-- the names of these, as they were given
 abbrev pub names_asked : List (List ℕ) → List (List ℕ)
 names_asked words = option_map_or (λ (a : Request). names_of (tables_in a.task)) (asked words) []
 

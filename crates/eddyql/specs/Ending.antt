@@ -13,14 +13,14 @@ use Rattle.run_plan.specs.declared.status.Stage.{Stage}
 use Rattle.run_plan.specs.declared.status.Stage.TheVariants as stage
 use Rattle.run_plan.specs.declared.status.Status.{Status}
 use Rattle.run_plan.specs.declared.status.Status.TheVariants as status
+use Rattle.run_notes.specs.Note.{line_of}
 use Rattle.run_answers.specs.Seen.{Sink}
 use Rattle.run_answers.specs.declared.stopping.Stop.{Stop}
 use Rattle.run_answers.specs.declared.stopping.Stop.TheVariants as stop
 use Rattle.eddyql.specs.Outcome.{IsOutcome, ReachedBy}
 use Rattle.eddyql.specs.Run.{MayEnd, IsBeforeOutput, IsLate}
 use Rattle.eddyql.specs.Asked.{asked, names_asked, is_tallied}
-use Rattle.eddyql.specs.Lines.{AllLines, SomeLines, IsCutOff, MayFail}
-use Rattle.eddyql.specs.Note.{IsNotedBehind, line_of}
+use Rattle.eddyql.specs.Lines.{AllLines, SomeLines, IsCutOff, IsNotedBehind, MayFail}
 use Rattle.eddyql.specs.declared.run.End.{End}
 use Rattle.eddyql.specs.declared.run.End.TheVariants as end
 

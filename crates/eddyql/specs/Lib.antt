@@ -2,6 +2,5 @@ pub mod Asked
 pub mod Outcome
 pub mod Run
 pub mod Lines
-pub mod Note
 pub mod Shipped
 pub mod Ending

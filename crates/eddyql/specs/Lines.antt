@@ -68,6 +68,12 @@ pub record IsCutOff (p : Predicates) (words : List (List ℕ)) (holds : Option (
   pub front : AddsFrontBehind noted.written noting.written lines line
   pub rose : RoseOrFull noted.faults noting.faults
 
+-- a sink has lines more, and behind them a line, or a front of it where its count rose
+abbrev pub IsNotedBehind : Sink → Sink → List ℕ → List ℕ → Type 0
+IsNotedBehind before now lines line =
+    Adds before.written now.written (lines ++ line)
+    ⊎ (RoseOrFull before.faults now.faults × AddsFrontBehind before.written now.written lines line)
+
 -- a fault of the output, or, where the words ask for lines of counts, of the notes
 abbrev pub MayFail : List (List ℕ) → Type 0 → Type 0 → Type 0
 MayFail words out notes = out ⊎ ((is_tallied words ≡ true) × notes)

@@ -5,16 +5,15 @@
 ghost use Rattle.std.specs.Prelude.{◌≡◌, ◌⊎◌};
 
 mod asking;
-mod noting;
 mod planning;
 mod program;
 mod run;
 mod shipping;
 
 use eddy_worker::NoGate;
-use noting::put_note;
 use outside::{RealFolder, RealSink};
 use program::{all_words, code_for};
+use run_notes::put_note;
 use run_plan::Status;
 use shipping::program_as_shipped;
 use std::io;

@@ -19,13 +19,13 @@ ghost use Rattle.eddyql.specs.Outcome.{IsOutcome};
 ghost use Rattle.eddyql.specs.Run.{status_of};
 ghost use Rattle.eddyql.specs.Shipped.{shipped_predicates};
 
-use crate::noting::put_note;
 use crate::program::{code_for, program};
 use eddy_worker::Gate;
 use fn_registry::{
     AddFault, Functions, Registered, SHIPPED, ShippedFunctions, Stored, divides, near10, same_sign,
 };
 use outside::{Folder, Sink};
+use run_notes::put_note;
 use run_plan::Status;
 use sq_value::{ColType, Kinds, Memory, SqText, Value};
 use std::alloc::Global;

@@ -1,5 +1,5 @@
 -- The line that says on the notes why a run was refused.
-use Rattle.std.specs.Prelude.{◌≡◌, ◌≢◌, ◌⊎◌, ℕ, ◌+◌, List, [], ◌∷◌, ◌++◌, codes, slice_index_or}
+use Rattle.std.specs.Prelude.{◌≡◌, ◌≢◌, ◌⊎◌, ℕ, ◌+◌, List, [], ◌∷◌, ◌++◌, map, Option, codes, slice_index_or}
 use Rattle.std.specs.Fmt.{decimal}
 use Rattle.outside.specs.Faults.{RoseOrFull}
 use Rattle.outside.specs.Told.{Adds, AddsFront}
@@ -11,14 +11,17 @@ use Rattle.table_csv.specs.declared.fault.TableFault.TheVariants as table
 use Rattle.sq_bind.specs.Fault.{place_of}
 use Rattle.sq_bind.specs.declared.fault.BindFault.{BindFault}
 use Rattle.sq_bind.specs.declared.fault.BindFault.TheVariants as bind
+use Rattle.command_line.specs.declared.command.TableWord.{TableWord}
 use Rattle.run_plan.specs.declared.status.Status.{Status}
 use Rattle.run_plan.specs.declared.status.Status.TheVariants as status
 use Rattle.run_plan.specs.declared.status.FileOf.{FileOf}
 use Rattle.run_plan.specs.declared.status.FileOf.TheVariants as file
 use Rattle.run_plan.specs.declared.status.LimitOf.{LimitOf}
 use Rattle.run_plan.specs.declared.status.LimitOf.TheVariants as limit
-use Rattle.run_answers.specs.SoFar.{AddsFrontBehind}
-use Rattle.run_answers.specs.Seen.{Sink}
+
+-- the names of the tables, as they were given
+abbrev pub names_of : List TableWord → List (List ℕ)
+names_of tables = map (λ (t : TableWord). t.name) tables
 
 -- the name of a table, by its number, among the names of all
 abbrev pub name_at : List (List ℕ) → ℕ → List ℕ
@@ -105,20 +108,15 @@ unfoldable pub line_of : List (List ℕ) → Status → List ℕ
 line_of names s = note names s ++ 10 ∷ []
 
 -- a sink has a line more, or a front of it where its count rose
-abbrev pub IsNoted : Sink → Sink → List ℕ → Type 0
-IsNoted before now line =
-    Adds before.written now.written line
-    ⊎ (RoseOrFull before.faults now.faults × AddsFront before.written now.written line)
-
--- a sink has lines more, and behind them a line, or a front of it where its count rose
-abbrev pub IsNotedBehind : Sink → Sink → List ℕ → List ℕ → Type 0
-IsNotedBehind before now lines line =
-    Adds before.written now.written (lines ++ line)
-    ⊎ (RoseOrFull before.faults now.faults × AddsFrontBehind before.written now.written lines line)
+abbrev pub IsNoted : Option (List ℕ) → Option (List ℕ) → ℕ → ℕ → List ℕ → Type 0
+IsNoted before now count counted line =
+    Adds before now line ⊎ (RoseOrFull count counted × AddsFront before now line)
 
 -- what a run over tables of these names puts to the notes where it would end by a status: nothing where it is done, and
 -- else the line of the status that it ends by, which is that one or want of memory
-pub record NotesOf (names : List (List ℕ)) (before now : Sink) (s ended : Status) : Type 0 where
+pub record NotesOf (names : List (List ℕ)) (before now : Option (List ℕ)) (count counted : ℕ)
+    (s ended : Status) : Type 0 where
   pub either : (ended ≡ s) ⊎ (ended ≡ status.Memory)
   pub silent : ended ≡ status.Done → now ≡ before
-  pub noted : ended ≢ status.Done → IsNoted before now (line_of names ended)
+  pub silent_count : ended ≡ status.Done → counted ≡ count
+  pub noted : ended ≢ status.Done → IsNoted before now count counted (line_of names ended)

@@ -1,7 +1,7 @@
 use Rattle.std.proofs.Common.{refl, ◌∙◌}
 use Rattle.std.proofs.lemmas.Result.{IfOk-weaker}
-use Rattle.eddyql.specs.Note.{line_of}
-use Rattle.eddyql.proofs.noting.line_of.Goals as goal
+use Rattle.run_notes.specs.Note.{line_of}
+use Rattle.run_notes.proofs.noting.line_of.Goals as goal
 
 pub returns : goal.returns
 unfolding line_of

@@ -1,6 +1,6 @@
 use Rattle.std.proofs.Common.{refl, ◌∙◌, append_assoc}
 use Rattle.std.proofs.lemmas.Result.{IfOk-weaker}
-use Rattle.eddyql.proofs.noting.table_note.Goals as goal
+use Rattle.run_notes.proofs.noting.table_note.Goals as goal
 
 pub returns-in-NotUtf8 : goal.returns-in-NotUtf8
 returns-in-NotUtf8 c = IfOk-weaker c.format-in-NotUtf8.result _ _ (λ s h. h ∙ simp (append_assoc, c.in-NotUtf8.is) refl) c.format-in-NotUtf8.ensures.ok

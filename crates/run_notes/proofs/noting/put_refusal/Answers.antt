@@ -1,5 +1,5 @@
-use Rattle.eddyql.specs.Note.{line_of}
-use Rattle.eddyql.proofs.noting.put_refusal.Goals as goal
+use Rattle.run_notes.specs.Note.{line_of}
+use Rattle.run_notes.proofs.noting.put_refusal.Goals as goal
 
 pub returns-in-Err-clause-noted : goal.returns-in-Err-clause-noted
 unfolding line_of

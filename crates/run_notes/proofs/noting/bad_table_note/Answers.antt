@@ -1,6 +1,6 @@
 use Rattle.std.proofs.Common.{refl, ◌∙◌, append_assoc}
 use Rattle.std.proofs.lemmas.Result.{IfOk-weaker}
-use Rattle.eddyql.proofs.noting.table_limit_note.Goals as goal
+use Rattle.run_notes.proofs.noting.bad_table_note.Goals as goal
 
 pub returns : goal.returns
 returns c = IfOk-weaker c.format.result _ _ (λ s h. h ∙ simp (append_assoc, c.in_ok-text.ensures, c.name_at-name.ensures) refl) c.format.ensures.ok
