@@ -2,7 +2,7 @@
 ghost use Rattle.std.specs.Prelude.{◌≡◌, ◌+◌, ◌*◌, ◌<◌, ◌≤◌, length, vec_len, vec_capacity};
 
 use crate::kept::Kept;
-use crate::lot::Lot;
+use crate::lot::Slot;
 use crate::pool::{Pool, Stamped};
 use crate::view::{Law, SeatView, Terms};
 use atomic_table::Table;
@@ -10,7 +10,13 @@ use std::alloc::Global;
 use std::collections::LinkedList;
 use std::sync::atomic::AtomicU64;
 
-pub(crate) type Rows<K, T> = Table<Lot<K, T>, LinkedList<SeatView<K, T>>, Terms<K, T>, Law, Global>;
+pub(crate) type Rows<K, T> = Table<
+    Slot<K, T>,
+    LinkedList<SeatView<K, T>>,
+    Terms<K, T>,
+    Law,
+    Global,
+>;
 
 /// Modules and a pool that take turns, a clock and cursors.
 pub struct Board<K: Kept, T: Stamped + Copy> {

@@ -7,7 +7,7 @@ ghost use Rattle.turn_board.specs.Views.{seats_from};
 use crate::board::{Board, Closed, MakeRefused};
 use crate::deal::{deal, gather};
 use crate::kept::Kept;
-use crate::lot::Lot;
+use crate::lot::Slot;
 use crate::moves::{move_in, move_out, refill};
 use crate::pool::{Pool, Stamped};
 use crate::seat::Seat;
@@ -22,7 +22,7 @@ struct Room<K: Kept, T: Stamped + Copy> {
     words: Vec<u64>,
     lengths: Vec<u32>,
     waiting: Vec<AtomicU64>,
-    slots: Vec<Lot<K, T>>,
+    slots: Vec<Slot<K, T>>,
     seats: Vec<Seat<K, T>>,
 }
 

@@ -6,7 +6,7 @@ ghost use mathlib.Core.Option.{some};
 ghost use lib.ListN.{get_elem?};
 ghost use Rattle.turn_board.specs.Pools.{PoolState};
 
-use crate::lot::Lot;
+use crate::lot::{Lot, Slot};
 use crate::pool::{Pool, Stamped};
 use std::alloc::Global;
 
@@ -14,7 +14,7 @@ use std::alloc::Global;
 pub(crate) fn move_in<K, T: Stamped + Copy>(
     modules: &mut Vec<K>,
     pool: Pool<T>,
-    slots: &mut Vec<Lot<K, T>>,
+    slots: &mut Vec<Slot<K, T>>,
 )
     requires empty { slots.old.items ≡ [] }
     requires room { vec_len modules.old + 1 ≤ vec_capacity slots.old }
@@ -24,16 +24,16 @@ pub(crate) fn move_in<K, T: Stamped + Copy>(
         × (vec_capacity modules.new ≡ vec_capacity modules.old) }
 {
     while let Some(module) = modules.pop() {
-        slots.push_reserved(Lot::OfModule(module));
+        slots.push_reserved(Slot::new(Lot::OfModule(module)));
     }
     slots.reverse();
-    slots.push_reserved(Lot::OfPool(pool));
+    slots.push_reserved(Slot::new(Lot::OfPool(pool)));
 }
 
 // Moves all of them back.
 pub(crate) fn move_out<K, T: Stamped + Copy>(
     modules: &mut Vec<K>,
-    mut slots: Vec<Lot<K, T>>,
+    mut slots: Vec<Slot<K, T>>,
 ) -> Pool<T>
     requires slots { (were : List K) × (pool : PoolState T)
         × (slots.items ≡ map Lot.OfModule were ++ Lot.OfPool pool ∷ []) }
@@ -41,15 +41,17 @@ pub(crate) fn move_out<K, T: Stamped + Copy>(
     requires room { vec_len slots ≤ vec_capacity modules.old + 1 }
     ensures { map Lot.OfModule modules.new.items ++ Lot.OfPool result ∷ [] ≡ slots.items }
 {
-    let Some(last) = slots.pop() else {
+    let Some(slot) = slots.pop() else {
         unreachable!()
     };
+    let last = slot.into_lot();
     let Lot::OfPool(pool) = last else {
         unreachable!()
     };
     slots.reverse();
     while let Some(slot) = slots.pop() {
-        let Lot::OfModule(module) = slot else {
+        let lot = slot.into_lot();
+        let Lot::OfModule(module) = lot else {
             unreachable!()
         };
         modules.push_reserved(module);
@@ -60,7 +62,7 @@ pub(crate) fn move_out<K, T: Stamped + Copy>(
 
 // The modules, in order, in the list that they came from, and the pool.
 pub(crate) fn refill<K, T: Stamped + Copy>(
-    closed: &mut atomic_table::Closed<Lot<K, T>, Global>,
+    closed: &mut atomic_table::Closed<Slot<K, T>, Global>,
     mut modules: Vec<K>,
     count: usize,
 ) -> (Vec<K>, Pool<T>)
@@ -78,13 +80,15 @@ pub(crate) fn refill<K, T: Stamped + Copy>(
         ≡ false }
 {
     for i in 0..count {
-        let lot = closed.take(i);
+        let slot = closed.take(i);
+        let lot = slot.into_lot();
         let Lot::OfModule(module) = lot else {
             unreachable!()
         };
         modules.push_reserved(module);
     }
-    let last = closed.take(count);
+    let slot = closed.take(count);
+    let last = slot.into_lot();
     let Lot::OfPool(pool) = last else {
         unreachable!()
     };

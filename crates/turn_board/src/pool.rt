@@ -50,8 +50,7 @@ pub enum PoolRefused {
 /// Each item of its moves has the plan of its sample, which is no move itself.
 #[derive(Drop)]
 pub struct Pool<T: Stamped + Copy> {
-    // Behind a box, so that a slot of the board is short: whoever has a module writes all of its slot, and so less of
-    // what lies near the next module's.
+    // Behind a box, so that a lot is short: whoever has a module writes all of its lot.
     stock: Box<Stock<T>>,
 }
 

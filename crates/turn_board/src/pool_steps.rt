@@ -44,10 +44,8 @@ impl<K: Kept, T: Stamped + Copy> Board<K, T> {
         ensures value { token.old.me.1 ≡ (self.now.modules, Lot.OfPool result) ∷ [] }
         ensures out { token.new.me ≡ (token.old.me.0, (self.now.modules, Lot.Out) ∷ []) }
     {
-        let lot = self
-            .table
-            .shared
-            .exchange(token, self.modules as usize, Lot::Out);
+        let place = token.slot_mut(&self.table.shared, self.modules as usize);
+        let lot = place.change(Lot::Out);
         let Lot::OfPool(pool) = lot else {
             unreachable!()
         };
@@ -61,10 +59,8 @@ impl<K: Kept, T: Stamped + Copy> Board<K, T> {
         ensures board { token.new.table_id ≡ token.old.table_id }
         ensures put { token.new.me ≡ (token.old.me.0, (self.now.modules, Lot.OfPool pool) ∷ []) }
     {
-        let lot = self
-            .table
-            .shared
-            .exchange(token, self.modules as usize, Lot::OfPool(pool));
+        let empty = token.slot_mut(&self.table.shared, self.modules as usize);
+        let lot = empty.change(Lot::OfPool(pool));
         let Lot::Out = lot else { unreachable!() };
     }
 

@@ -1,11 +1,11 @@
 //! A seat: the right to take turns, to draw and to claim.
 
-use crate::lot::Lot;
+use crate::lot::Slot;
 use crate::pool::Stamped;
 use crate::view::SeatView;
 use std::collections::LinkedList;
 
-pub(crate) type Token<K, T> = atomic_table::Seat<Lot<K, T>, LinkedList<SeatView<K, T>>>;
+pub(crate) type Token<K, T> = atomic_table::Seat<Slot<K, T>, LinkedList<SeatView<K, T>>>;
 
 /// A seat of a board. It can't be copied or dropped, so that all are there when the board is closed.
 pub struct Seat<K, T: Stamped + Copy> {

@@ -52,7 +52,8 @@ impl<K: Kept, T: Stamped + Copy> Board<K, T> {
         ensures value { token.old.me.1 ≡ (slot, Lot.OfModule result) ∷ [] }
         ensures out { token.new.me ≡ (token.old.me.0, (slot, Lot.Out) ∷ []) }
     {
-        let lot = self.table.shared.exchange(token, slot as usize, Lot::Out);
+        let place = token.slot_mut(&self.table.shared, slot as usize);
+        let lot = place.change(Lot::Out);
         let Lot::OfModule(module) = lot else {
             unreachable!()
         };
@@ -66,10 +67,8 @@ impl<K: Kept, T: Stamped + Copy> Board<K, T> {
         ensures board { token.new.table_id ≡ token.old.table_id }
         ensures put { token.new.me ≡ (token.old.me.0, (slot, Lot.OfModule value) ∷ []) }
     {
-        let lot = self
-            .table
-            .shared
-            .exchange(token, slot as usize, Lot::OfModule(value));
+        let empty = token.slot_mut(&self.table.shared, slot as usize);
+        let lot = empty.change(Lot::OfModule(value));
         let Lot::Out = lot else { unreachable!() };
     }
 

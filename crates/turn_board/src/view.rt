@@ -2,7 +2,7 @@
 ghost use Rattle.std.specs.Prelude.{ℕ};
 
 use crate::kept::Kept;
-use crate::lot::Lot;
+use crate::lot::Slot;
 use crate::pool::{Move, Pool, Stamped};
 use atomic_table::{Join, Play, Split, TableRule};
 use std::collections::LinkedList;
@@ -83,7 +83,7 @@ impl<K, T: Stamped + Copy> Drop for Terms<K, T> {
 /// The rule of the board: what holds between any two steps.
 pub struct Law;
 
-impl<K: Kept, T: Stamped + Copy> TableRule<Lot<K, T>, LinkedList<SeatView<K, T>>, Terms<K, T>>
+impl<K: Kept, T: Stamped + Copy> TableRule<Slot<K, T>, LinkedList<SeatView<K, T>>, Terms<K, T>>
     for Law {
     ghost use Rattle.std.specs.Prelude.{Some};
     ghost use Rattle.turn_board.specs.Rule.{IsBoard};
@@ -108,7 +108,7 @@ pub(crate) struct Drawing<D> {
     of: PhantomData<D>,
 }
 
-impl<K: Kept, T: Stamped + Copy, D: DrawFor> Play<Lot<K, T>, LinkedList<SeatView<K, T>>>
+impl<K: Kept, T: Stamped + Copy, D: DrawFor> Play<Slot<K, T>, LinkedList<SeatView<K, T>>>
     for Drawing<D> {
     ghost use Rattle.turn_board.specs.Plays.{Draws};
 
@@ -117,7 +117,7 @@ impl<K: Kept, T: Stamped + Copy, D: DrawFor> Play<Lot<K, T>, LinkedList<SeatView
 
 pub(crate) struct Claiming;
 
-impl<K: Kept, T: Stamped + Copy> Play<Lot<K, T>, LinkedList<SeatView<K, T>>> for Claiming {
+impl<K: Kept, T: Stamped + Copy> Play<Slot<K, T>, LinkedList<SeatView<K, T>>> for Claiming {
     ghost use Rattle.turn_board.specs.Plays.{Claims};
 
     ghost then = { Claims };
@@ -125,7 +125,7 @@ impl<K: Kept, T: Stamped + Copy> Play<Lot<K, T>, LinkedList<SeatView<K, T>>> for
 
 pub(crate) struct Taking;
 
-impl<K: Kept, T: Stamped + Copy> Play<Lot<K, T>, LinkedList<SeatView<K, T>>> for Taking {
+impl<K: Kept, T: Stamped + Copy> Play<Slot<K, T>, LinkedList<SeatView<K, T>>> for Taking {
     ghost use Rattle.turn_board.specs.Plays.{Takes};
 
     ghost then = { Takes K.history K.extends };
@@ -133,7 +133,7 @@ impl<K: Kept, T: Stamped + Copy> Play<Lot<K, T>, LinkedList<SeatView<K, T>>> for
 
 pub(crate) struct Noting;
 
-impl<K: Kept, T: Stamped + Copy> Play<Lot<K, T>, LinkedList<SeatView<K, T>>> for Noting {
+impl<K: Kept, T: Stamped + Copy> Play<Slot<K, T>, LinkedList<SeatView<K, T>>> for Noting {
     ghost use Rattle.turn_board.specs.Plays.{Notes};
 
     ghost then = { Notes };
@@ -141,7 +141,7 @@ impl<K: Kept, T: Stamped + Copy> Play<Lot<K, T>, LinkedList<SeatView<K, T>>> for
 
 pub(crate) struct Marking;
 
-impl<K: Kept, T: Stamped + Copy> Play<Lot<K, T>, LinkedList<SeatView<K, T>>> for Marking {
+impl<K: Kept, T: Stamped + Copy> Play<Slot<K, T>, LinkedList<SeatView<K, T>>> for Marking {
     ghost use Rattle.turn_board.specs.Plays.{Marks};
 
     ghost then = { Marks K.marks };
@@ -149,7 +149,7 @@ impl<K: Kept, T: Stamped + Copy> Play<Lot<K, T>, LinkedList<SeatView<K, T>>> for
 
 pub(crate) struct FindingNoted;
 
-impl<K: Kept, T: Stamped + Copy> Play<Lot<K, T>, LinkedList<SeatView<K, T>>> for FindingNoted {
+impl<K: Kept, T: Stamped + Copy> Play<Slot<K, T>, LinkedList<SeatView<K, T>>> for FindingNoted {
     ghost use Rattle.turn_board.specs.Plays.{FindsNoted};
 
     ghost then = { FindsNoted K.history };
@@ -157,7 +157,7 @@ impl<K: Kept, T: Stamped + Copy> Play<Lot<K, T>, LinkedList<SeatView<K, T>>> for
 
 pub(crate) struct FindingMarked;
 
-impl<K: Kept, T: Stamped + Copy> Play<Lot<K, T>, LinkedList<SeatView<K, T>>> for FindingMarked {
+impl<K: Kept, T: Stamped + Copy> Play<Slot<K, T>, LinkedList<SeatView<K, T>>> for FindingMarked {
     ghost use Rattle.turn_board.specs.Plays.{FindsMarked};
 
     ghost then = { FindsMarked K.marks };
@@ -165,7 +165,7 @@ impl<K: Kept, T: Stamped + Copy> Play<Lot<K, T>, LinkedList<SeatView<K, T>>> for
 
 pub(crate) struct Giving;
 
-impl<K: Kept, T: Stamped + Copy> Play<Lot<K, T>, LinkedList<SeatView<K, T>>> for Giving {
+impl<K: Kept, T: Stamped + Copy> Play<Slot<K, T>, LinkedList<SeatView<K, T>>> for Giving {
     ghost use Rattle.turn_board.specs.Plays.{Gives};
 
     ghost then = { Gives };
@@ -173,7 +173,7 @@ impl<K: Kept, T: Stamped + Copy> Play<Lot<K, T>, LinkedList<SeatView<K, T>>> for
 
 pub(crate) struct TakingPool;
 
-impl<K: Kept, T: Stamped + Copy> Play<Lot<K, T>, LinkedList<SeatView<K, T>>> for TakingPool {
+impl<K: Kept, T: Stamped + Copy> Play<Slot<K, T>, LinkedList<SeatView<K, T>>> for TakingPool {
     ghost use Rattle.turn_board.specs.PoolPlays.{TakesPool};
 
     ghost then = { TakesPool T.same_plan T.stamp };
@@ -181,7 +181,7 @@ impl<K: Kept, T: Stamped + Copy> Play<Lot<K, T>, LinkedList<SeatView<K, T>>> for
 
 pub(crate) struct Learning;
 
-impl<K: Kept, T: Stamped + Copy> Play<Lot<K, T>, LinkedList<SeatView<K, T>>> for Learning {
+impl<K: Kept, T: Stamped + Copy> Play<Slot<K, T>, LinkedList<SeatView<K, T>>> for Learning {
     ghost use Rattle.turn_board.specs.PoolPlays.{Learns};
 
     ghost then = { Learns };
@@ -189,7 +189,7 @@ impl<K: Kept, T: Stamped + Copy> Play<Lot<K, T>, LinkedList<SeatView<K, T>>> for
 
 pub(crate) struct Raising;
 
-impl<K: Kept, T: Stamped + Copy> Play<Lot<K, T>, LinkedList<SeatView<K, T>>> for Raising {
+impl<K: Kept, T: Stamped + Copy> Play<Slot<K, T>, LinkedList<SeatView<K, T>>> for Raising {
     ghost use Rattle.turn_board.specs.PoolPlays.{Raises};
 
     ghost then = { Raises };
@@ -197,7 +197,7 @@ impl<K: Kept, T: Stamped + Copy> Play<Lot<K, T>, LinkedList<SeatView<K, T>>> for
 
 pub(crate) struct NotingPool;
 
-impl<K: Kept, T: Stamped + Copy> Play<Lot<K, T>, LinkedList<SeatView<K, T>>> for NotingPool {
+impl<K: Kept, T: Stamped + Copy> Play<Slot<K, T>, LinkedList<SeatView<K, T>>> for NotingPool {
     ghost use Rattle.turn_board.specs.PoolPlays.{NotesPool};
 
     ghost then = { NotesPool };
@@ -205,7 +205,7 @@ impl<K: Kept, T: Stamped + Copy> Play<Lot<K, T>, LinkedList<SeatView<K, T>>> for
 
 pub(crate) struct GivingPool;
 
-impl<K: Kept, T: Stamped + Copy> Play<Lot<K, T>, LinkedList<SeatView<K, T>>> for GivingPool {
+impl<K: Kept, T: Stamped + Copy> Play<Slot<K, T>, LinkedList<SeatView<K, T>>> for GivingPool {
     ghost use Rattle.turn_board.specs.PoolPlays.{GivesPool};
 
     ghost then = { GivesPool };

@@ -4,5 +4,5 @@ use Rattle.turn_board.specs.declared.lot.Lot.{Lot}
 use Rattle.turn_board.specs.declared.lot.Lot.TheVariants.{OfModule}
 use Rattle.turn_board.proofs.board.Board.take_out.Goals as goal
 
-pub exchange-lot-requires : goal.exchange-lot-requires
-exchange-lot-requires g c = let e = c.requires.out.1 in (c.requires.board, (OfModule c.requires.out.0, e ∙ ap (λ (l : List (ℕ × Lot g.row.K.Denot g.row.T.Denot)). (c.args.slot, OfModule c.requires.out.0) ∷ rest l) (sym e)))
+pub slot_mut-place-requires : goal.slot_mut-place-requires
+slot_mut-place-requires g c = let e = c.requires.out.1 in (c.requires.board, (OfModule c.requires.out.0, e ∙ ap (λ (l : List (ℕ × Lot g.row.K.Denot g.row.T.Denot)). (c.args.slot, OfModule c.requires.out.0) ∷ rest l) (sym e)))
