@@ -22,7 +22,7 @@ pub(crate) type Rows<K, T> = Table<
 pub struct Board<K: Kept, T: Stamped + Copy> {
     pub(crate) table: Rows<K, T>,
     pub(crate) lengths: Vec<u32>,
-    // How many threads wait for each turn.
+    // Sixteen words for each turn: how many seats wait for it, and what tells them that one went on to another.
     pub(crate) waiting: Vec<AtomicU64>,
     pub(crate) spare: Vec<K>,
     pub(crate) modules: u32,
@@ -34,7 +34,7 @@ pub struct Board<K: Kept, T: Stamped + Copy> {
     ghost crew: { table.shared.key.seats ≡ seats },
     ghost manned: { 0 < seats },
     ghost deep: { length table.shared.key.opening.value.items ≡ modules },
-    ghost wait: { vec_len waiting ≡ modules + 1 },
+    ghost wait: { vec_len waiting ≡ 16 * (modules + 1) },
     ghost room: { (vec_len spare ≡ 0) × (modules ≤ vec_capacity spare) },
 }
 

@@ -19,6 +19,7 @@ fn new_seat<K: Kept, T: Stamped + Copy>(token: Token<K, T>) -> Seat<K, T>
         token,
         dry: [false; 16],
         bound: 0,
+        last: 0,
     }
 }
 
@@ -69,12 +70,14 @@ pub(crate) fn gather<K: Kept, T: Stamped + Copy>(
         token: mut all,
         dry: _,
         bound: _,
+        last: _,
     } = last;
     while let Some(seat) = seats.pop() {
         let Seat {
             mut token,
             dry: _,
             bound: _,
+            last: _,
         } = seat;
         board.shared.join_seat::<Together>(&mut token, all);
         all = token;

@@ -27,11 +27,11 @@ struct Room<K: Kept, T: Stamped + Copy> {
 }
 
 // So many counts at 0.
-fn no_one_waits(alloc: Global, turns: usize) -> Result<Vec<AtomicU64>, AllocError>
-    ensures { IfOk result (λ v. vec_len v ≡ turns) }
+fn no_one_waits(alloc: Global, words: usize) -> Result<Vec<AtomicU64>, AllocError>
+    ensures { IfOk result (λ v. vec_len v ≡ words) }
 {
-    let mut waiting = Vec::with_capacity(alloc, turns)?;
-    for _k in 0..turns {
+    let mut waiting = Vec::with_capacity(alloc, words)?;
+    for _k in 0..words {
         waiting.push_reserved(AtomicU64::new(0));
     }
     Ok(waiting)
@@ -46,14 +46,14 @@ fn rooms<K: Kept, T: Stamped + Copy>(
     requires { modules ≤ 16 }
     ensures words { IfOk result (λ r. r.words.items ≡ replicate (32 + 8 * modules) 0) }
     ensures lengths { IfOk result (λ r. r.lengths.items ≡ lengths.now) }
-    ensures waiting { IfOk result (λ r. vec_len r.waiting ≡ modules + 1) }
+    ensures waiting { IfOk result (λ r. vec_len r.waiting ≡ 16 * (modules + 1)) }
     ensures slots { IfOk result (λ r. (r.slots.items ≡ []) × (vec_len r.slots ≡ 0)
         × (modules + 1 ≤ vec_capacity r.slots)) }
     ensures seats { IfOk result (λ r. (r.seats.items ≡ []) × (vec_len r.seats ≡ 0) × (seats ≤ vec_capacity r.seats)) }
 {
     let words = Vec::from_elem(alloc, 0u64, 32 + 8 * modules)?;
     let lengths = lengths.to_vec(alloc)?;
-    let waiting = no_one_waits(alloc, modules + 1)?;
+    let waiting = no_one_waits(alloc, 16 * (modules + 1))?;
     let slots = Vec::with_capacity(alloc, modules + 1)?;
     let Ok(seats) = Vec::with_capacity(alloc, seats as usize) else {
         slots.destroy_empty();

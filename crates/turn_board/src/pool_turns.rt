@@ -27,6 +27,8 @@ impl<K: Kept, T: Stamped + Copy> Board<K, T> {
             → Completes K.history K.extends family (view seat.old) }
         ensures learnt { Each (λ v. v.put ≡ true → T.stamp v.item < (view seat.new).reach) result.moves }
     {
+        self.go_on(seat.last, self.modules);
+        seat.last = self.modules;
         self.take_pool_turn(rt, &mut seat.token);
         seat.bound = self.learn_as(&mut seat.token);
         self.take_pool_out(&mut seat.token)

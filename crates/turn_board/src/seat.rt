@@ -13,4 +13,6 @@ pub struct Seat<K, T: Stamped + Copy> {
     pub(crate) dry: [bool; 16],
     // One more than the last stamp of the module that it has out, or the top of the pool.
     pub(crate) bound: u64,
+    // Whose turn it took last: a module's, or the pool's. It means nothing.
+    pub(crate) last: u32,
 }

@@ -30,6 +30,8 @@ impl<K: Kept, T: Stamped + Copy> Board<K, T> {
             → Completes K.history K.extends family (view seat.old) }
         ensures sees { Sees K.history K.extends slot (view seat.old) result }
     {
+        self.go_on(seat.last, slot);
+        seat.last = slot;
         seat.bound = self.take_turn(rt, &mut seat.token, slot);
         self.take_out(&mut seat.token, slot)
     }

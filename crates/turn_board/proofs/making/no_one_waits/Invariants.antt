@@ -4,5 +4,5 @@ use Rattle.turn_board.proofs.making.no_one_waits.Given as goal
 abbrev pub invariant-loop-k : goal.invariant-loop-k
 invariant-loop-k l = record {
   count : vec_len l.waiting ≡ l._k;
-  room : l.turns ≤ vec_capacity l.waiting;
+  room : l.words ≤ vec_capacity l.waiting;
 }

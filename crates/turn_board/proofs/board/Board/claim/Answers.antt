@@ -35,7 +35,7 @@ pub returns-else-found-index-clause-seat : goal.returns-else-found-index-clause-
 returns-else-found-index-clause-seat g c = let h : c.args.cursor < 16 = omega arith in
     let same : get_or (view c.args.seat.now).lengths c.args.cursor 0 ≡ c.index.result.now = ap (λ (l : List ℕ). get_or l c.args.cursor 0) c.requires.seat.lengths ∙ (sym (get_or_default_zero c.args.self.now.lengths.items c.args.cursor c.index.result.now (search rules)) ∙ sym c.index.ensures) in
     let e = c.claim_as-found.ensures.none (omega arith) in
-    let new : Seat g.row.K.Denot g.row.T.Denot = record { token = c.claim_as-found.new.token; dry = set c.args.seat.now.dry c.args.cursor true; bound = c.args.seat.now.bound } in
+    let new : Seat g.row.K.Denot g.row.T.Denot = record { token = c.claim_as-found.new.token; dry = set c.args.seat.now.dry c.args.cursor true; bound = c.args.seat.now.bound; last = c.args.seat.now.last } in
     seat_as c.args.self.now c.args.seat.now new c.requires.seat (got_none (view c.args.seat.now) c.args.cursor) c.args.seat.now.token.me.1 c.claim_as-found.ensures.board.0 e refl refl
     (ap (λ (l : List Bool). set l c.args.cursor true) c.requires.seat.dry ∙ gets_dry c.args.cursor (view c.args.seat.now).dry h) c.requires.seat.bound c.requires.seat.near.0 c.requires.seat.near.1 c.requires.seat.thrifty c.requires.seat.tops
 

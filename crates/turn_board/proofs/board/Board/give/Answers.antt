@@ -110,7 +110,7 @@ returns-clause-seat g c = let b = c.requires.busy in let h = b.2 in let p : Seat
     let q : SeatView g.row.K.Denot g.row.T.Denot = gave (marked_by g.K.Kept.marks (noted p z) z (Some h1)) in
     let me4 : c.give_as.new.token.me ≡ (gave (marked g.K.Kept.marks (noted p z) z) ∷ [], []) = c.give_as.ensures.gave ∙ ap (λ (u : Sat g.row.K.Denot g.row.T.Denot). let n : Sat g.row.K.Denot g.row.T.Denot = (gave (only u.0) ∷ [], []) in n) me3 in
     let me5 : c.give_as.new.token.me ≡ (q ∷ [], []) = me4 ∙ ap (λ (o : Option (Hold g.row.K.Denot)). let n : Sat g.row.K.Denot g.row.T.Denot = (gave (marked_by g.K.Kept.marks (noted p z) z o) ∷ [], []) in n) has1 in
-    let new : Seat g.row.K.Denot g.row.T.Denot = record { token = c.give_as.new.token; dry = c.args.seat.now.dry; bound = 0 } in
+    let new : Seat g.row.K.Denot g.row.T.Denot = record { token = c.give_as.new.token; dry = c.args.seat.now.dry; bound = 0; last = c.args.seat.now.last } in
     seat_as c.args.self.now c.args.seat.now new c.requires.seat q [] (c.give_as.ensures.board.0 ∙ (c.mark_as.ensures.board.0 ∙ (c.note_as.ensures.board.0 ∙ c.put_in.ensures.board))) me5 refl (length_set p.saw (slot_of p.hold) z) c.requires.seat.dry
     (sym (ap (λ (o : Option (PoolHold g.row.T.Denot)). bound_by {K = g.row.K.Denot} None o) h.pooling)) (omega arith) c.requires.seat.near.1 (subst (λ (o : Option (Hold g.row.K.Denot)). debts (marked_by g.K.Kept.marks (noted p z) z o) ≤ 1) has1 c.requires.thrifty)
     (set_most p.tops (slot_of p.hold) p.reach p.reach c.requires.seat.tops (omega arith))

@@ -103,7 +103,7 @@ returns-clause-seat g c = let b = c.requires.pooling in let h = b.1 in let p : S
     let me4 : c.give_pool_as.new.token.me ≡ (gave_pool (noted_pool (raised p top) z) ∷ [], []) = c.give_pool_as.ensures.gave ∙ ap (λ (u : Sat g.row.K.Denot g.row.T.Denot). let n : Sat g.row.K.Denot g.row.T.Denot = (gave_pool (only u.0) ∷ [], []) in n) me3 in
     let as_if : Option (PoolHold g.row.T.Denot) → SeatView g.row.K.Denot g.row.T.Denot = λ o. gave_pool (noted_pool (record p { pooling = o }) z) in
     let me5 : c.give_pool_as.new.token.me ≡ (q ∷ [], []) = me4 ∙ ap (λ (v : SeatView g.row.K.Denot g.row.T.Denot). let n : Sat g.row.K.Denot g.row.T.Denot = (v ∷ [], []) in n) (ap (λ (o : Option (PoolHold g.row.T.Denot)). as_if (raised_in o top)) h.pooling ∙ sym (ap as_if h.pooling)) in
-    let new : Seat g.row.K.Denot g.row.T.Denot = record { token = c.give_pool_as.new.token; dry = c.args.seat.now.dry; bound = 0 } in
+    let new : Seat g.row.K.Denot g.row.T.Denot = record { token = c.give_pool_as.new.token; dry = c.args.seat.now.dry; bound = 0; last = c.args.seat.now.last } in
     seat_as c.args.self.now c.args.seat.now new c.requires.seat q [] (c.give_pool_as.ensures.board.0 ∙ (c.note_pool_as.ensures.board.0 ∙ (c.raise_as.ensures.board.0 ∙ c.put_pool_in.ensures.board))) me5 refl refl c.requires.seat.dry
     (sym (ap (λ (o : Option (Hold g.row.K.Denot)). bound_by {T = g.row.T.Denot} o None) h.hold)) (omega arith) c.requires.seat.near.1 c.requires.seat.thrifty c.requires.seat.tops
 

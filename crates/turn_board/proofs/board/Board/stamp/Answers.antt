@@ -26,7 +26,7 @@ stamp_for-stamp-requires-clause-hold g c = let b = c.requires.busy in let h = b.
 pub returns-clause-seat : goal.returns-clause-seat
 returns-clause-seat g c = let e = c.stamp_for-stamp.ensures.drew in let p : SeatView g.row.K.Denot g.row.T.Denot = view c.args.seat.now in let n : ℕ = c.stamp_for-stamp.result in let row : ℕ = c.args.row in let m : ℕ = c.args.slot in
     let ev : only c.stamp_for-stamp.new.token.me.0 ≡ drew p row n = ap (λ (u : Sat g.row.K.Denot g.row.T.Denot). only u.0) e in let h = c.requires.busy.2 in let above = c.stamp_for-stamp.ensures.above in
-    let new : Seat g.row.K.Denot g.row.T.Denot = record { token = c.stamp_for-stamp.new.token; dry = c.args.seat.now.dry; bound = n + 1 } in
+    let new : Seat g.row.K.Denot g.row.T.Denot = record { token = c.stamp_for-stamp.new.token; dry = c.args.seat.now.dry; bound = n + 1; last = c.args.seat.now.last } in
     seat_as c.args.self.now c.args.seat.now new c.requires.seat (drew p row n) c.args.seat.now.token.me.1 c.stamp_for-stamp.ensures.board.0 e refl refl c.requires.seat.dry
     (sym (ap (λ (o : Option (Hold g.row.K.Denot)). bound_by (drew_in o row n) p.pooling) h.hold)) (omega (arith, above.1)) (omega (arith, above.1)) c.requires.seat.thrifty (λ k. let a = c.requires.seat.tops k in let b = above.0 in omega arith)
 

@@ -18,14 +18,14 @@ pub returns-clause-seat : goal.returns-clause-seat
 returns-clause-seat g c = let t = c.take_turn-seat.ensures.took in let p : SeatView g.row.K.Denot g.row.T.Denot = view c.args.seat.now in let m : ℕ = c.args.slot in let b : ℕ = c.take_turn-seat.result in let y : g.row.K.Denot = c.take_out.result in
     let same : t.0 ≡ y = ap (λ (l : List (ℕ × Lot g.row.K.Denot g.row.T.Denot)). value_or t.0 l) (sym (ap (λ (m : Sat g.row.K.Denot g.row.T.Denot). m.1) t.1) ∙ c.take_out.ensures.value) in
     let e : c.take_out.new.token.me ≡ (took p m b y ∷ [], (m, Out) ∷ []) = c.take_out.ensures.out ∙ (ap (λ (u : Sat g.row.K.Denot g.row.T.Denot). let n : Sat g.row.K.Denot g.row.T.Denot = (u.0, (m, Out) ∷ []) in n) t.1 ∙ ap (λ (x : g.row.K.Denot). let n : Sat g.row.K.Denot g.row.T.Denot = (took p m b x ∷ [], (m, Out) ∷ []) in n) same) in
-    let new : Seat g.row.K.Denot g.row.T.Denot = record { token = c.take_out.new.token; dry = c.args.seat.now.dry; bound = b } in
+    let new : Seat g.row.K.Denot g.row.T.Denot = record { token = c.take_out.new.token; dry = c.args.seat.now.dry; bound = b; last = c.args.slot } in
     seat_as c.args.self.now c.args.seat.now new c.requires.seat (took p m b y) ((m, Out) ∷ []) (c.take_out.ensures.board ∙ c.take_turn-seat.ensures.board) e refl refl c.requires.seat.dry refl c.take_turn-seat.ensures.small c.requires.seat.near.1 c.requires.seat.thrifty c.requires.seat.tops
 
 pub returns-clause-busy : goal.returns-clause-busy
 returns-clause-busy g c = let t = c.take_turn-seat.ensures.took in let p : SeatView g.row.K.Denot g.row.T.Denot = view c.args.seat.now in let m : ℕ = c.args.slot in let b : ℕ = c.take_turn-seat.result in let y : g.row.K.Denot = c.take_out.result in
     let same : t.0 ≡ y = ap (λ (l : List (ℕ × Lot g.row.K.Denot g.row.T.Denot)). value_or t.0 l) (sym (ap (λ (m : Sat g.row.K.Denot g.row.T.Denot). m.1) t.1) ∙ c.take_out.ensures.value) in
     let e : c.take_out.new.token.me ≡ (took p m b y ∷ [], (m, Out) ∷ []) = c.take_out.ensures.out ∙ (ap (λ (u : Sat g.row.K.Denot g.row.T.Denot). let n : Sat g.row.K.Denot g.row.T.Denot = (u.0, (m, Out) ∷ []) in n) t.1 ∙ ap (λ (x : g.row.K.Denot). let n : Sat g.row.K.Denot g.row.T.Denot = (took p m b x ∷ [], (m, Out) ∷ []) in n) same) in
-    let new : Seat g.row.K.Denot g.row.T.Denot = record { token = c.take_out.new.token; dry = c.args.seat.now.dry; bound = b } in
+    let new : Seat g.row.K.Denot g.row.T.Denot = record { token = c.take_out.new.token; dry = c.args.seat.now.dry; bound = b; last = c.args.slot } in
     let h : Hold g.row.K.Denot = record { slot = m; bound = b; taken = y; since = []; noted = false; marked = false } in record {
       out = ap (λ (u : Sat g.row.K.Denot g.row.T.Denot). u.1) e;
       turn = h;
@@ -45,16 +45,16 @@ pub returns-clause-view : goal.returns-clause-view
 returns-clause-view g c = let t = c.take_turn-seat.ensures.took in let p : SeatView g.row.K.Denot g.row.T.Denot = view c.args.seat.now in let m : ℕ = c.args.slot in let b : ℕ = c.take_turn-seat.result in let y : g.row.K.Denot = c.take_out.result in
     let same : t.0 ≡ y = ap (λ (l : List (ℕ × Lot g.row.K.Denot g.row.T.Denot)). value_or t.0 l) (sym (ap (λ (m : Sat g.row.K.Denot g.row.T.Denot). m.1) t.1) ∙ c.take_out.ensures.value) in
     let e : c.take_out.new.token.me ≡ (took p m b y ∷ [], (m, Out) ∷ []) = c.take_out.ensures.out ∙ (ap (λ (u : Sat g.row.K.Denot g.row.T.Denot). let n : Sat g.row.K.Denot g.row.T.Denot = (u.0, (m, Out) ∷ []) in n) t.1 ∙ ap (λ (x : g.row.K.Denot). let n : Sat g.row.K.Denot g.row.T.Denot = (took p m b x ∷ [], (m, Out) ∷ []) in n) same) in
-    let new : Seat g.row.K.Denot g.row.T.Denot = record { token = c.take_out.new.token; dry = c.args.seat.now.dry; bound = b } in (b, ap (λ (u : Sat g.row.K.Denot g.row.T.Denot). only u.0) e, subst (λ (z : g.row.K.Denot). Each (λ (e : ℕ × ℕ). e.1 < b) (g.K.Kept.history z)) same t.3)
+    let new : Seat g.row.K.Denot g.row.T.Denot = record { token = c.take_out.new.token; dry = c.args.seat.now.dry; bound = b; last = c.args.slot } in (b, ap (λ (u : Sat g.row.K.Denot g.row.T.Denot). only u.0) e, subst (λ (z : g.row.K.Denot). Each (λ (e : ℕ × ℕ). e.1 < b) (g.K.Kept.history z)) same t.3)
 
 pub returns-clause-sees : goal.returns-clause-sees
 returns-clause-sees g c = let t = c.take_turn-seat.ensures.took in let p : SeatView g.row.K.Denot g.row.T.Denot = view c.args.seat.now in let m : ℕ = c.args.slot in let b : ℕ = c.take_turn-seat.result in let y : g.row.K.Denot = c.take_out.result in
     let same : t.0 ≡ y = ap (λ (l : List (ℕ × Lot g.row.K.Denot g.row.T.Denot)). value_or t.0 l) (sym (ap (λ (m : Sat g.row.K.Denot g.row.T.Denot). m.1) t.1) ∙ c.take_out.ensures.value) in
     let e : c.take_out.new.token.me ≡ (took p m b y ∷ [], (m, Out) ∷ []) = c.take_out.ensures.out ∙ (ap (λ (u : Sat g.row.K.Denot g.row.T.Denot). let n : Sat g.row.K.Denot g.row.T.Denot = (u.0, (m, Out) ∷ []) in n) t.1 ∙ ap (λ (x : g.row.K.Denot). let n : Sat g.row.K.Denot g.row.T.Denot = (took p m b x ∷ [], (m, Out) ∷ []) in n) same) in
-    let new : Seat g.row.K.Denot g.row.T.Denot = record { token = c.take_out.new.token; dry = c.args.seat.now.dry; bound = b } in subst (λ (z : g.row.K.Denot). Sees g.K.Kept.history g.K.Kept.extends m p z) same t.2
+    let new : Seat g.row.K.Denot g.row.T.Denot = record { token = c.take_out.new.token; dry = c.args.seat.now.dry; bound = b; last = c.args.slot } in subst (λ (z : g.row.K.Denot). Sees g.K.Kept.history g.K.Kept.extends m p z) same t.2
 
 pub returns-clause-completes : goal.returns-clause-completes
 returns-clause-completes g c family full = let t = c.take_turn-seat.ensures.took in let p : SeatView g.row.K.Denot g.row.T.Denot = view c.args.seat.now in let m : ℕ = c.args.slot in let b : ℕ = c.take_turn-seat.result in let y : g.row.K.Denot = c.take_out.result in
     let same : t.0 ≡ y = ap (λ (l : List (ℕ × Lot g.row.K.Denot g.row.T.Denot)). value_or t.0 l) (sym (ap (λ (m : Sat g.row.K.Denot g.row.T.Denot). m.1) t.1) ∙ c.take_out.ensures.value) in
     let e : c.take_out.new.token.me ≡ (took p m b y ∷ [], (m, Out) ∷ []) = c.take_out.ensures.out ∙ (ap (λ (u : Sat g.row.K.Denot g.row.T.Denot). let n : Sat g.row.K.Denot g.row.T.Denot = (u.0, (m, Out) ∷ []) in n) t.1 ∙ ap (λ (x : g.row.K.Denot). let n : Sat g.row.K.Denot g.row.T.Denot = (took p m b x ∷ [], (m, Out) ∷ []) in n) same) in
-    let new : Seat g.row.K.Denot g.row.T.Denot = record { token = c.take_out.new.token; dry = c.args.seat.now.dry; bound = b } in completes_less g.K.Kept.history g.K.Kept.extends p (took p m b y) refl refl (λ n row stamp. omega arith) family (subst (Completes g.K.Kept.history g.K.Kept.extends family) (ap (λ (u : Sat g.row.K.Denot g.row.T.Denot). only u.0) e) full)
+    let new : Seat g.row.K.Denot g.row.T.Denot = record { token = c.take_out.new.token; dry = c.args.seat.now.dry; bound = b; last = c.args.slot } in completes_less g.K.Kept.history g.K.Kept.extends p (took p m b y) refl refl (λ n row stamp. omega arith) family (subst (Completes g.K.Kept.history g.K.Kept.extends family) (ap (λ (u : Sat g.row.K.Denot g.row.T.Denot). only u.0) e) full)

@@ -41,7 +41,7 @@ returns-clause-seat g c = let t = c.take_pool_turn.ensures.took in let p : SeatV
     let q : SeatView g.row.K.Denot g.row.T.Denot = learnt (took_pool p t.1 y) t.1 in
     let e : c.take_pool_out.new.token.me ≡ (q ∷ [], (m, Out) ∷ []) = c.take_pool_out.ensures.out ∙ (ap (λ (u : Sat g.row.K.Denot g.row.T.Denot). let r : Sat g.row.K.Denot g.row.T.Denot = (u.0, (m, Out) ∷ []) in r) me2
     ∙ (λ i. (learnt (took_pool p t.1 (same i)) (l.0 i) ∷ [], (m, Out) ∷ []))) in
-    let new : Seat g.row.K.Denot g.row.T.Denot = record { token = c.take_pool_out.new.token; dry = c.args.seat.now.dry; bound = n } in
+    let new : Seat g.row.K.Denot g.row.T.Denot = record { token = c.take_pool_out.new.token; dry = c.args.seat.now.dry; bound = n; last = c.args.self.now.modules } in
     seat_as c.args.self.now c.args.seat.now new c.requires.seat q ((m, Out) ∷ []) (c.take_pool_out.ensures.board ∙ (c.learn_as-seat.ensures.board.0 ∙ c.take_pool_turn.ensures.board)) e refl refl c.requires.seat.dry
     (l.0 ∙ sym (ap (λ (o : Option (Hold g.row.K.Denot)). bound_by o q.pooling) c.requires.idle.hold)) (omega (arith, l.1)) (omega (arith, l.0, l.1, c.requires.seat.near.1)) c.requires.seat.thrifty (λ k. let a = c.requires.seat.tops k in omega arith)
 
@@ -56,7 +56,7 @@ returns-clause-pooling g c = let t = c.take_pool_turn.ensures.took in let p : Se
     let q : SeatView g.row.K.Denot g.row.T.Denot = learnt (took_pool p t.1 y) t.1 in
     let e : c.take_pool_out.new.token.me ≡ (q ∷ [], (m, Out) ∷ []) = c.take_pool_out.ensures.out ∙ (ap (λ (u : Sat g.row.K.Denot g.row.T.Denot). let r : Sat g.row.K.Denot g.row.T.Denot = (u.0, (m, Out) ∷ []) in r) me2
     ∙ (λ i. (learnt (took_pool p t.1 (same i)) (l.0 i) ∷ [], (m, Out) ∷ []))) in
-    let new : Seat g.row.K.Denot g.row.T.Denot = record { token = c.take_pool_out.new.token; dry = c.args.seat.now.dry; bound = n } in
+    let new : Seat g.row.K.Denot g.row.T.Denot = record { token = c.take_pool_out.new.token; dry = c.args.seat.now.dry; bound = n; last = c.args.self.now.modules } in
     let h' : PoolHold g.row.T.Denot = record { taken = y; top = t.1; noted = false } in record {
       out = ap (λ (u : Sat g.row.K.Denot g.row.T.Denot). u.1) e ∙ ap (λ (j : ℕ). let r : List (ℕ × Lot g.row.K.Denot g.row.T.Denot) = (j, Out) ∷ [] in r) (sym (ap (λ (u : Sat g.row.K.Denot g.row.T.Denot). length (only u.0).saw) e ∙ c.requires.seat.sized));
       turn = h';
@@ -79,7 +79,7 @@ returns-clause-later g c x saw = let t = c.take_pool_turn.ensures.took in let p 
     let q : SeatView g.row.K.Denot g.row.T.Denot = learnt (took_pool p t.1 y) t.1 in
     let e : c.take_pool_out.new.token.me ≡ (q ∷ [], (m, Out) ∷ []) = c.take_pool_out.ensures.out ∙ (ap (λ (u : Sat g.row.K.Denot g.row.T.Denot). let r : Sat g.row.K.Denot g.row.T.Denot = (u.0, (m, Out) ∷ []) in r) me2
     ∙ (λ i. (learnt (took_pool p t.1 (same i)) (l.0 i) ∷ [], (m, Out) ∷ []))) in
-    let new : Seat g.row.K.Denot g.row.T.Denot = record { token = c.take_pool_out.new.token; dry = c.args.seat.now.dry; bound = n } in subst (λ (z : PoolState g.row.T.Denot). IsLaterPool g.T.Stamped.same_plan x z) same (t.3 x saw)
+    let new : Seat g.row.K.Denot g.row.T.Denot = record { token = c.take_pool_out.new.token; dry = c.args.seat.now.dry; bound = n; last = c.args.self.now.modules } in subst (λ (z : PoolState g.row.T.Denot). IsLaterPool g.T.Stamped.same_plan x z) same (t.3 x saw)
 
 pub returns-clause-view : goal.returns-clause-view
 returns-clause-view g c = let t = c.take_pool_turn.ensures.took in let p : SeatView g.row.K.Denot g.row.T.Denot = view c.args.seat.now in let m : ℕ = c.args.self.now.modules in
@@ -92,7 +92,7 @@ returns-clause-view g c = let t = c.take_pool_turn.ensures.took in let p : SeatV
     let q : SeatView g.row.K.Denot g.row.T.Denot = learnt (took_pool p t.1 y) t.1 in
     let e : c.take_pool_out.new.token.me ≡ (q ∷ [], (m, Out) ∷ []) = c.take_pool_out.ensures.out ∙ (ap (λ (u : Sat g.row.K.Denot g.row.T.Denot). let r : Sat g.row.K.Denot g.row.T.Denot = (u.0, (m, Out) ∷ []) in r) me2
     ∙ (λ i. (learnt (took_pool p t.1 (same i)) (l.0 i) ∷ [], (m, Out) ∷ []))) in
-    let new : Seat g.row.K.Denot g.row.T.Denot = record { token = c.take_pool_out.new.token; dry = c.args.seat.now.dry; bound = n } in (t.1, ap (λ (u : Sat g.row.K.Denot g.row.T.Denot). only u.0) e)
+    let new : Seat g.row.K.Denot g.row.T.Denot = record { token = c.take_pool_out.new.token; dry = c.args.seat.now.dry; bound = n; last = c.args.self.now.modules } in (t.1, ap (λ (u : Sat g.row.K.Denot g.row.T.Denot). only u.0) e)
 
 pub returns-clause-learnt : goal.returns-clause-learnt
 returns-clause-learnt g c = let t = c.take_pool_turn.ensures.took in let p : SeatView g.row.K.Denot g.row.T.Denot = view c.args.seat.now in let m : ℕ = c.args.self.now.modules in
@@ -105,7 +105,7 @@ returns-clause-learnt g c = let t = c.take_pool_turn.ensures.took in let p : Sea
     let q : SeatView g.row.K.Denot g.row.T.Denot = learnt (took_pool p t.1 y) t.1 in
     let e : c.take_pool_out.new.token.me ≡ (q ∷ [], (m, Out) ∷ []) = c.take_pool_out.ensures.out ∙ (ap (λ (u : Sat g.row.K.Denot g.row.T.Denot). let r : Sat g.row.K.Denot g.row.T.Denot = (u.0, (m, Out) ∷ []) in r) me2
     ∙ (λ i. (learnt (took_pool p t.1 (same i)) (l.0 i) ∷ [], (m, Out) ∷ []))) in
-    let new : Seat g.row.K.Denot g.row.T.Denot = record { token = c.take_pool_out.new.token; dry = c.args.seat.now.dry; bound = n } in
+    let new : Seat g.row.K.Denot g.row.T.Denot = record { token = c.take_pool_out.new.token; dry = c.args.seat.now.dry; bound = n; last = c.args.self.now.modules } in
     subst (λ (u : Sat g.row.K.Denot g.row.T.Denot). Each (λ (v : Move g.row.T.Denot). v.put ≡ true → g.T.Stamped.stamp v.item < (only u.0).reach) y.moves) (sym e)
     (each_of (λ (v : Move g.row.T.Denot). v.put ≡ true → g.T.Stamped.stamp v.item < t.1) (λ (v : Move g.row.T.Denot). v.put ≡ true → g.T.Stamped.stamp v.item < q.reach) y.moves (λ v h put. let a = h put in omega arith)
     (subst (λ (z : PoolState g.row.T.Denot). Each (λ (v : Move g.row.T.Denot). v.put ≡ true → g.T.Stamped.stamp v.item < t.1) z.moves) same t.4))
@@ -121,4 +121,4 @@ returns-clause-completes g c family full = let t = c.take_pool_turn.ensures.took
     let q : SeatView g.row.K.Denot g.row.T.Denot = learnt (took_pool p t.1 y) t.1 in
     let e : c.take_pool_out.new.token.me ≡ (q ∷ [], (m, Out) ∷ []) = c.take_pool_out.ensures.out ∙ (ap (λ (u : Sat g.row.K.Denot g.row.T.Denot). let r : Sat g.row.K.Denot g.row.T.Denot = (u.0, (m, Out) ∷ []) in r) me2
     ∙ (λ i. (learnt (took_pool p t.1 (same i)) (l.0 i) ∷ [], (m, Out) ∷ []))) in
-    let new : Seat g.row.K.Denot g.row.T.Denot = record { token = c.take_pool_out.new.token; dry = c.args.seat.now.dry; bound = n } in completes_less g.K.Kept.history g.K.Kept.extends p q refl refl (λ k r x. omega arith) family (subst (Completes g.K.Kept.history g.K.Kept.extends family) (ap (λ (u : Sat g.row.K.Denot g.row.T.Denot). only u.0) e) full)
+    let new : Seat g.row.K.Denot g.row.T.Denot = record { token = c.take_pool_out.new.token; dry = c.args.seat.now.dry; bound = n; last = c.args.self.now.modules } in completes_less g.K.Kept.history g.K.Kept.extends p q refl refl (λ k r x. omega arith) family (subst (Completes g.K.Kept.history g.K.Kept.extends family) (ap (λ (u : Sat g.row.K.Denot g.row.T.Denot). only u.0) e) full)
