@@ -5,8 +5,6 @@
 mod catalogue;
 mod fault;
 mod names;
-#[cfg(test)]
-mod tests;
 
 pub use catalogue::Catalogue;
 pub use fault::CatalogueFault;

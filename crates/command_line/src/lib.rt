@@ -12,8 +12,6 @@ mod program;
 mod reading;
 mod settings;
 mod tables;
-#[cfg(test)]
-mod tests;
 
 pub use command::{AccessWord, Command, PolicyName, Query, TableWord, Task};
 pub use fault::WordsFault;

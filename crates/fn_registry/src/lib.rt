@@ -10,8 +10,6 @@ mod registered;
 mod shipped;
 mod shipped_functions;
 mod signature;
-#[cfg(test)]
-mod tests;
 
 pub use fault::AddFault;
 pub use functions::Functions;

@@ -6,8 +6,6 @@
 
 mod laws;
 mod lookup;
-#[cfg(test)]
-mod tests;
 
 pub use laws::lookup_law;
 pub use lookup::Lookup;

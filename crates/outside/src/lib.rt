@@ -18,17 +18,14 @@ mod real_folder;
 mod real_sink;
 mod sink;
 mod stored;
-#[cfg(test)]
-mod stream_tests;
 mod sure_folder;
 mod sure_sink;
-#[cfg(test)]
-mod tests;
 
 pub use fault::{LoadFault, PutFault};
 pub use folder::Folder;
 pub use memory_folder::MemoryFolder;
 pub use memory_sink::MemorySink;
+pub use reading::load_prefix;
 pub use real_folder::RealFolder;
 pub use real_sink::RealSink;
 pub use sink::Sink;

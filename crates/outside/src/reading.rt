@@ -102,12 +102,12 @@ fn read_prefix<R: Read>(
     Ok(bytes)
 }
 
-/// The first bytes of what was opened, at most `limit` of them.
+/// The first bytes of what was opened, at most `limit` of them. It is what `RealFolder` does with a file, for any stream.
 ///
 /// # Errors
 /// - `Failed`: it couldn't be opened, or reading failed. That call was counted.
 /// - `Memory`: there is no memory for the bytes.
-pub(crate) fn load_prefix<R: Read + Drop>(
+pub fn load_prefix<R: Read + Drop>(
     opened: io::Result<R>,
     alloc: Global,
     limit: usize,

@@ -16,8 +16,6 @@ mod policy;
 mod pressure;
 mod recorder;
 mod script;
-#[cfg(test)]
-mod tests;
 mod word;
 
 pub use any_policy::AnyPolicy;

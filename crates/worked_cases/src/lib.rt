@@ -6,10 +6,30 @@
 #[cfg(test)]
 mod bags;
 #[cfg(test)]
+mod catalogues;
+#[cfg(test)]
+mod commands;
+#[cfg(test)]
 mod conditions;
+#[cfg(test)]
+mod demos;
+#[cfg(test)]
+mod folders;
+#[cfg(test)]
+mod indexes;
+#[cfg(test)]
+mod lookups;
+#[cfg(test)]
+mod policies;
+#[cfg(test)]
+mod predicates;
 #[cfg(test)]
 mod scripts;
 #[cfg(test)]
+mod streams;
+#[cfg(test)]
 mod tables;
+#[cfg(test)]
+mod tuples;
 #[cfg(test)]
 mod values;

@@ -2,7 +2,7 @@
 ghost use Rattle.std.specs.Prelude.{◌≡◌, [], ◌∷◌, ◌<◌, IfOk, codes, length};
 ghost use Rattle.sq_value.specs.declared.value.ColType.TheVariants as kind;
 
-use crate::Lookup;
+use index_source::Lookup;
 use sq_value::{ColType, Column, Key, Memory, SqText, Table, Value};
 use std::alloc::Global;
 use std::test::Fail;

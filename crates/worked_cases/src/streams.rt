@@ -1,7 +1,6 @@
 //! The real folder and sink over files, and over streams that fail where they are told. What is
 //! expected was worked out by hand.
-use crate::reading::load_prefix;
-use crate::{Folder, LoadFault, PutFault, RealFolder, RealSink, Sink};
+use outside::{Folder, LoadFault, PutFault, RealFolder, RealSink, Sink, load_prefix};
 use std::alloc::{AllocError, Global};
 use std::io::{ErrorKind, Read, Write};
 use std::test::Fail;

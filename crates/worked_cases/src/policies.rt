@@ -6,7 +6,9 @@ ghost use Rattle.tuple_span.specs.declared.route.Via.TheVariants as via;
 ghost use Rattle.tuple_span.specs.declared.route.Route.TheVariants as route;
 ghost use Rattle.route_policy.specs.Routes.{AreChoices};
 
-use crate::{AnyPolicy, Lottery, Policy, PolicyCall, Pressure, Recorder, RouteScript, ScriptFault};
+use route_policy::{
+    AnyPolicy, Lottery, Policy, PolicyCall, Pressure, Recorder, RouteScript, ScriptFault,
+};
 use std::alloc::{AllocError, Global};
 use std::test::Fail;
 use tuple_span::{Route, Tuple, Via};

@@ -1,49 +1,60 @@
 //! The shipped predicates, worked out by hand, and predicates that are added, found and called.
-use crate::{
+use fn_registry::{
     AddFault, Functions, Registered, SHIPPED, ShippedFunctions, Stored, divides, near10, same_sign,
 };
 use sq_value::{ColType, Kinds, Predicates, SqText, Truth, Value};
+use std::alloc::Global;
 use std::test::Fail;
 
-fn truth(letter: char) -> Truth {
-    match letter {
-        'T' => Truth::True,
-        'F' => Truth::False,
-        _ => Truth::Unknown,
+// Two integers, and the truth of `divides`, `same_sign` and `near10` of them.
+const CASES: &str = "\
+1 3 TTT
+2 4 TTT
+2 3 FTT
+4 2 FTT
+0 0 FTT
+0 5 FFT
+5 0 TFT
+-3 6 TFT
+-3 -7 FTT
+10 20 TTT
+10 21 FTF
+-5 5 TFT
+-5 6 FFF
+-1 -9223372036854775808 TTF
+-9223372036854775808 9223372036854775807 FFF";
+
+fn letter(truth: Truth) -> char {
+    match truth {
+        Truth::True => 'T',
+        Truth::False => 'F',
+        Truth::Unknown => 'U',
     }
 }
 
-// Two integers, and the truth of `divides`, `same_sign` and `near10` of them.
-const CASES: [(i64, i64, char, char, char); 15] = [
-    (1, 3, 'T', 'T', 'T'),
-    (2, 4, 'T', 'T', 'T'),
-    (2, 3, 'F', 'T', 'T'),
-    (4, 2, 'F', 'T', 'T'),
-    (0, 0, 'F', 'T', 'T'),
-    (0, 5, 'F', 'F', 'T'),
-    (5, 0, 'T', 'F', 'T'),
-    (-3, 6, 'T', 'F', 'T'),
-    (-3, -7, 'F', 'T', 'T'),
-    (10, 20, 'T', 'T', 'T'),
-    (10, 21, 'F', 'T', 'F'),
-    (-5, 5, 'T', 'F', 'T'),
-    (-5, 6, 'F', 'F', 'F'),
-    (-1, i64::MIN, 'T', 'T', 'F'),
-    (i64::MIN, i64::MAX, 'F', 'F', 'F'),
-];
+/// The truths of the three predicates of two values.
+fn truths(alloc: Global, x: &Value, y: &Value) -> Result<String, Fail> {
+    let (divided, signed, near) = (divides(x, y), same_sign(x, y), near10(x, y));
+    Ok(format!(in alloc; "{}{}{}", letter(divided), letter(signed), letter(near))?)
+}
 
 #[test]
-fn answers_of_integers(rt: HostRuntime) {
-    for (x, y, divided, signed, near) in CASES {
-        let x = Value::Int(x);
-        let y = Value::Int(y);
-        assert_eq!(rt; divides(&x, &y), truth(divided));
-        assert_eq!(rt; same_sign(&x, &y), truth(signed));
-        assert_eq!(rt; near10(&x, &y), truth(near));
-        assert_eq!(rt; divides(&Value::Null, &y), Truth::Unknown);
-        assert_eq!(rt; same_sign(&x, &Value::Null), Truth::Unknown);
-        assert_eq!(rt; near10(&Value::Null, &Value::Null), Truth::Unknown);
+fn answers_of_integers(rt: HostRuntime) -> Result<(), Fail> {
+    for case in CASES.lines() {
+        let mut words = case.split(' ');
+        let x = Value::Int(words.next().unwrap_or("").parse().unwrap_or(0));
+        let y = Value::Int(words.next().unwrap_or("").parse().unwrap_or(0));
+        let wanted = words.next().unwrap_or("");
+        assert_eq!(rt; truths(rt.alloc(), &x, &y)?.as_str(), wanted, "{case}");
+        for (x, y) in [
+            (&Value::Null, &y),
+            (&x, &Value::Null),
+            (&Value::Null, &Value::Null),
+        ] {
+            assert_eq!(rt; truths(rt.alloc(), x, y)?.as_str(), "UUU", "{case}");
+        }
     }
+    Ok(())
 }
 
 const INTEGERS: Kinds = Kinds {
@@ -63,7 +74,7 @@ fn given<F: Predicates>(functions: &F, name: &str, x: i64, y: i64) -> Option<Tru
 
 // The second is added before the first, so that a place isn't a number.
 #[test]
-#[tactic(auto, unfolding(crate::specs::Meaning::gives_of))]
+#[tactic(auto, unfolding(fn_registry::specs::Meaning::gives_of))]
 fn found_and_called(rt: HostRuntime) -> Result<(), Fail> {
     let alloc = rt.alloc();
     let mut functions: Functions<SHIPPED> = Functions::new(alloc);
@@ -88,7 +99,7 @@ fn found_and_called(rt: HostRuntime) -> Result<(), Fail> {
 
 // A name that is there, but for its case, then a number that is there, and a 33rd predicate.
 #[test]
-#[tactic(auto, unfolding(crate::specs::Meaning::gives_of))]
+#[tactic(auto, unfolding(fn_registry::specs::Meaning::gives_of))]
 fn refused(rt: HostRuntime) -> Result<(), Fail> {
     let alloc = rt.alloc();
     let mut functions: Functions<1> = Functions::new(alloc);

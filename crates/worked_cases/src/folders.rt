@@ -1,5 +1,5 @@
 //! The answers of single calls, worked out by hand.
-use crate::{Folder, LoadFault, MemoryFolder, MemorySink, PutFault, Sink, SureFolder, SureSink};
+use outside::{Folder, LoadFault, MemoryFolder, MemorySink, PutFault, Sink, SureFolder, SureSink};
 use sq_value::Memory;
 use std::alloc::Global;
 use std::test::Fail;
