@@ -102,7 +102,7 @@ fn read_prefix<R: Read>(
     Ok(bytes)
 }
 
-/// The first bytes of what was opened, at most `limit` of them. It is what `RealFolder` does with a file, for any stream.
+/// The first bytes of what was opened, at most `limit` of them: what `RealFolder` loads of a file, from any stream.
 ///
 /// # Errors
 /// - `Failed`: it couldn't be opened, or reading failed. That call was counted.

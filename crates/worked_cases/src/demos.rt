@@ -1,7 +1,7 @@
 //! Cells of the demo, worked out by hand from the rows' definitions.
 //!
-//! A case is a line: the rows of the demo, its seed, a table, a row, a column, and the cell: a number, `null`, or `none`
-//! where there is no such cell.
+//! A case is a line: the rows of the demo, its seed, a table, a row, a column, and the cell: a number, `null`, or
+//! `none` where there is no such cell.
 use catalogue::Catalogue;
 use demo_tables::demo;
 use sq_value::Value;
