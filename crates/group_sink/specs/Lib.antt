@@ -1,0 +1,3 @@
+pub mod Cells
+pub mod Groups
+pub mod Lines
