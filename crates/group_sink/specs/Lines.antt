@@ -89,7 +89,7 @@ told_apart true lines = firsts is_same_line lines
 told_apart false lines = lines
 
 -- with LIMIT the first so many stay
-abbrev pub limited : Option ℕ → List (List Out) → List (List Out)
+abbrev pub limited : {X : Type 0} → Option ℕ → List X → List X
 limited None lines = lines
 limited (Some n) lines = take n lines
 
