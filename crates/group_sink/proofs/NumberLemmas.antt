@@ -1,6 +1,6 @@
 -- The digits of a number, piece by piece.
-use Rattle.std.proofs.Common.{◌≡◌, ℤ, ℕ, zero, suc, ◌+◌, ◌-◌, ◌/◌, ◌%◌, ◌^◌, List, [], ◌∷◌, ◌++◌, refl, ap, sym, ◌∙◌, append_assoc, arith}
-use Rattle.std.specs.Prelude.{Result, Ok, Err, OnOk, unsigned_abs}
+use Rattle.std.proofs.Common.{◌≡◌, ℤ, ℕ, zero, suc, ◌+◌, ◌-◌, ◌/◌, ◌%◌, ◌^◌, List, [], ◌∷◌, ◌++◌, refl, ap, sym, ◌∙◌, arith}
+use Rattle.std.specs.Prelude.{unsigned_abs}
 use Rattle.std.specs.Int.{is_negative}
 use Rattle.std.specs.Fmt.{sign_text, decimal}
 use Rattle.std.proofs.Math.Nat.{div-div-eq-div-mul, pow-succ'}
@@ -25,7 +25,6 @@ last_digits-step (suc k) n rest h e =
 
 -- the text of a decimal number, in its pieces
 pub decimal_text-is : (d : Dec) (z : ℤ) (size whole : ℕ) → z ≡ d.units → size ≡ unsigned_abs z → whole ≡ size / 10 ^ d.scale
-    → decimal_text d ≡ (sign_text (is_negative z) ++ decimal whole) ++ fraction_text d.scale size
+    → decimal_text d ≡ sign_text (is_negative z) ++ decimal whole ++ fraction_text d.scale size
 unfolding decimal_text
-decimal_text-is d z size whole same e f =
-    sym (append_assoc (sign_text (is_negative z)) (decimal whole) (fraction_text d.scale size) ∙ rw (f, e, same) refl)
+decimal_text-is d z size whole same e f = rw (f, e, same) refl

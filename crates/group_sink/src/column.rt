@@ -122,8 +122,26 @@ fn sum_column<'t>(
         (spec.scale_of block.now tables.now column)) }
 {
     let scale = scale_of(block, tables, column);
-    let counts = totals_of(alloc, block, tables, members, numbers, groups, column, Addend::Known)?;
-    let sums = totals_of(alloc, block, tables, members, numbers, groups, column, Addend::Units)?;
+    let counts = totals_of(
+        alloc,
+        block,
+        tables,
+        members,
+        numbers,
+        groups,
+        column,
+        Addend::Known,
+    )?;
+    let sums = totals_of(
+        alloc,
+        block,
+        tables,
+        members,
+        numbers,
+        groups,
+        column,
+        Addend::Units,
+    )?;
     let counts = Items::from_vec(counts);
     let sums = Items::from_vec(sums);
     Ok(Column::Sums {
@@ -153,11 +171,47 @@ fn agg_column<'t>(
         (picked group numbers.now (map (value_over block.now tables.now column) members.now))) }
 {
     match kind {
-        AggKind::CountAll => count_column(alloc, block, tables, members, numbers, groups, column, Addend::One),
-        AggKind::Count => count_column(alloc, block, tables, members, numbers, groups, column, Addend::Known),
+        AggKind::CountAll => count_column(
+            alloc,
+            block,
+            tables,
+            members,
+            numbers,
+            groups,
+            column,
+            Addend::One,
+        ),
+        AggKind::Count => count_column(
+            alloc,
+            block,
+            tables,
+            members,
+            numbers,
+            groups,
+            column,
+            Addend::Known,
+        ),
         AggKind::Sum => sum_column(alloc, block, tables, members, numbers, groups, column),
-        AggKind::Min => value_column(alloc, block, tables, members, numbers, groups, column, Pick::By(LEAST)),
-        AggKind::Max => value_column(alloc, block, tables, members, numbers, groups, column, Pick::By(GREATEST)),
+        AggKind::Min => value_column(
+            alloc,
+            block,
+            tables,
+            members,
+            numbers,
+            groups,
+            column,
+            Pick::By(LEAST),
+        ),
+        AggKind::Max => value_column(
+            alloc,
+            block,
+            tables,
+            members,
+            numbers,
+            groups,
+            column,
+            Pick::By(GREATEST),
+        ),
     }
 }
 
@@ -184,7 +238,16 @@ pub(crate) fn column_of<'t>(
         (picked group numbers.now (map (value_over block.now tables.now column) members.now))) }
 {
     match agg {
-        None => value_column(alloc, block, tables, members, numbers, groups, column, Pick::First),
+        None => value_column(
+            alloc,
+            block,
+            tables,
+            members,
+            numbers,
+            groups,
+            column,
+            Pick::First,
+        ),
         Some(kind) => agg_column(alloc, block, tables, members, numbers, groups, kind, column),
     }
 }

@@ -56,17 +56,17 @@ pub(crate) fn keys_order(way: SortWay, x: Option<Key<'_>>, y: Option<Key<'_>>) -
         }
         (Some(a), Some(b)) => {
             let order = a.cmp(&b);
-            if way.descending { order.reverse() } else { order }
+            if way.descending {
+                order.reverse()
+            } else {
+                order
+            }
         }
     }
 }
 
 /// The one of two values that comes first; the former of two that tie.
-fn sooner_of<'t>(
-    way: SortWay,
-    x: Option<&'t Value>,
-    y: Option<&'t Value>,
-) -> Option<&'t Value>
+fn sooner_of<'t>(way: SortWay, x: Option<&'t Value>, y: Option<&'t Value>) -> Option<&'t Value>
     ensures { seen result ≡ sooner way (seen x.entry) (seen y.entry) }
 {
     let order = keys_order(way, key_of_seen(x), key_of_seen(y));

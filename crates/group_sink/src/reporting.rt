@@ -114,7 +114,15 @@ fn report_over(
     let count = count_of(shape.grouped, keys, numbers.as_slice());
     let groups = up_to(alloc, count)?;
     let cells = shape.cells.as_slice();
-    let columns = columns_of(alloc, block, tables, members, numbers.as_slice(), count, cells)?;
+    let columns = columns_of(
+        alloc,
+        block,
+        tables,
+        members,
+        numbers.as_slice(),
+        count,
+        cells,
+    )?;
     let order = sort_keys(
         alloc,
         block,

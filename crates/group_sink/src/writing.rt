@@ -19,12 +19,7 @@ use sq_value::Memory;
 use std::alloc::Global;
 
 /// Puts the field of a number after a line. The number's text is made beside it.
-fn push_units(
-    line: &mut Vec<u8>,
-    text: &mut Vec<u8>,
-    units: i128,
-    scale: u8,
-) -> Result<(), Memory>
+fn push_units(line: &mut Vec<u8>, text: &mut Vec<u8>, units: i128, scale: u8) -> Result<(), Memory>
     ensures { OnOk result (line.new.items
         ≡ line.old.items ++ field_text default_writer (decimal_text record { units = units; scale = scale })) }
 {
