@@ -1,6 +1,6 @@
 -- The groups of members, by the numbers of their groups.
-use Rattle.std.proofs.Common.{◌≡◌, ℕ, ◌<◌, Bool, true, List, [], ◌∷◌, length, map, refl, ap, sym, ◌∙◌, arith, subst}
-use Rattle.std.specs.Prelude.{◌==◌, filter, replicate, All}
+use Rattle.std.proofs.Common.{◌≡◌, ℕ, ◌<◌, Bool, true, List, [], ◌∷◌, length, map, ap, sym, ◌∙◌, arith, subst}
+use Rattle.std.specs.Prelude.{◌==◌, filter, All}
 use Rattle.std.specs.List.{list_any, position_or_len, range_with_len}
 use Rattle.std.specs.Cmp.{IsEquivalence}
 use Rattle.std.proofs.lemmas.List.{length-map}
@@ -10,7 +10,7 @@ use Rattle.bag_meaning.proofs.ListLemmas.{map_agree}
 use Rattle.bag_meaning.proofs.RangeLemmas.{All-range}
 use Rattle.indexmap.specs.IndexSet.{insert_all}
 use Rattle.group_sink.specs.Dense.{numbered}
-use Rattle.group_sink.specs.Groups.{firsts, kinds}
+use Rattle.group_sink.specs.Groups.{kinds}
 use Rattle.group_sink.specs.Picked.{picked, AreGroups, kinds_from}
 use Rattle.group_sink.proofs.DenseLemmas.{position-within}
 use Rattle.group_sink.proofs.KindLemmas.{firsts-seen, kinds-numbered}

@@ -4,8 +4,7 @@ use Rattle.std.specs.Prelude.{◌==◌, ℤ, pos, ◌+ℤ◌, if◌then◌else�
 use Rattle.std.specs.List.{range_with_len}
 use Rattle.std.proofs.lemmas.Int.{ints}
 use Rattle.std.proofs.lemmas.Bool.{eq-eqb, ne_eqb}
-use Rattle.std.proofs.lemmas.List.Elements.{All-nil, All-cons, All-weaker}
-use Rattle.group_sink.specs.Picked.{picked, AreGroups}
+use Rattle.group_sink.specs.Picked.{picked}
 use Rattle.group_sink.specs.Sums.{sum_at}
 use Rattle.group_sink.specs.Totals.{total_by}
 

@@ -1,5 +1,5 @@
 -- Combinations in the order of the product.
-use Rattle.std.proofs.Common.{◌≡◌, ℕ, ◌+◌, ◌<◌, ◌≤◌, List, [], length, map, get_or, sym, ◌∙◌, ap, arith, subst}
+use Rattle.std.proofs.Common.{◌≡◌, ℕ, ◌+◌, ◌≤◌, List, [], length, map, get_or, sym, ◌∙◌, ap, arith, subst}
 use Rattle.std.specs.Prelude.{All, AllPairs}
 use Rattle.std.specs.Cmp.Lexicographic.{slice_cmp, texts_ties, bytes_decides}
 use Rattle.std.specs.List.Sorted.{IsPermutation}

@@ -25,7 +25,7 @@ use Rattle.bag_meaning.specs.declared.combo.Combo.{Combo}
 use Rattle.bag_meaning.proofs.ListLemmas.{map_agree}
 use Rattle.bag_meaning.proofs.RangeLemmas.{All-range}
 use Rattle.result_sink.specs.Ready.{rows_of_combo}
-use Rattle.group_sink.specs.Cells.{cell_over, is_same_line, rank_of_out, shown, leading}
+use Rattle.group_sink.specs.Cells.{cell_over, is_same_line, rank_of_out, out_of_value, leading}
 use Rattle.group_sink.specs.Columns.{Placed, cells_at, placed_by, placed_on, sort_rank, by_sort_keys}
 use Rattle.group_sink.specs.Dense.{numbered}
 use Rattle.group_sink.specs.Groups.{firsts, groups_of, has_same_keys}
@@ -107,7 +107,7 @@ module _ (block : Block) (tables : List Relation) (shape : Shape) (members : Lis
     -- what a line is sorted by
     line-rank : (on : SortOn) (j : ℕ) → j < count → sort_rank block tables members numbers columns on j ≡ rank_of_out (sorted_on block tables on (line j))
     line-rank (sort.Cell place) j below = ap (λ (cells : List Out). rank_of_out (slice_index_or cells place out.Null)) (line-cells j below)
-    line-rank (sort.Column c) j below = ap (λ (values : List Value). rank_of_out (shown (leading values))) (values-picked c j)
+    line-rank (sort.Column c) j below = ap (λ (values : List Value). rank_of_out (out_of_value (leading values))) (values-picked c j)
 
     line-placed : (order : List ShapeOrder) (x y : ℕ) → x < count → y < count
         → by_placed (map (λ o. placed_on block tables members numbers columns o x) order) (map (λ o. placed_on block tables members numbers columns o y) order)

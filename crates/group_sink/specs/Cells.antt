@@ -17,11 +17,11 @@ use Rattle.group_sink.specs.declared.line.Out.{Out}
 use Rattle.group_sink.specs.declared.line.Out.TheVariants as out
 
 -- a value as a cell shows it
-abbrev pub shown : Value → Out
-shown value.Null = out.Null
-shown (value.Int n) = out.Number n 0
-shown (value.Text t) = out.Text t
-shown (value.Decimal d) = out.Number d.units d.scale
+abbrev pub out_of_value : Value → Out
+out_of_value value.Null = out.Null
+out_of_value (value.Int n) = out.Number n 0
+out_of_value (value.Text t) = out.Text t
+out_of_value (value.Decimal d) = out.Number d.units d.scale
 
 -- what a cell is compared by: a number by its units, since all numbers of one cell have the scale of its column; a
 -- text by its bytes
@@ -78,8 +78,8 @@ abbrev pub aggregate : ℕ → AggKind → List Value → Out
 aggregate scale agg.CountAll values = out.Number (pos (length values)) 0
 aggregate scale agg.Count values = out.Number (pos (length (filter is_known values))) 0
 aggregate scale agg.Sum values = sum_of scale (filter is_known values)
-aggregate scale agg.Min values = shown (first_by least_first (filter is_known values))
-aggregate scale agg.Max values = shown (first_by greatest_first (filter is_known values))
+aggregate scale agg.Min values = out_of_value (first_by least_first (filter is_known values))
+aggregate scale agg.Max values = out_of_value (first_by greatest_first (filter is_known values))
 
 -- the first of the values; of none it is null
 abbrev pub leading : List Value → Value
@@ -87,7 +87,7 @@ leading values = slice_index_or values 0 value.Null
 
 -- what is in a cell, over the values of its column in the members of a group
 abbrev pub cell_over : ℕ → Option AggKind → List Value → Out
-cell_over scale None values = shown (leading values)
+cell_over scale None values = out_of_value (leading values)
 cell_over scale (Some kind) values = aggregate scale kind values
 
 -- whether two lines are equal in all cells

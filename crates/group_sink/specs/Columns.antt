@@ -12,7 +12,7 @@ use Rattle.sq_expr.specs.declared.shape.ShapeOrder.{ShapeOrder}
 use Rattle.sq_expr.specs.declared.shape.SortOn.{SortOn}
 use Rattle.sq_expr.specs.declared.shape.SortOn.TheVariants as sort
 use Rattle.bag_meaning.specs.declared.combo.Combo.{Combo}
-use Rattle.group_sink.specs.Cells.{shown, rank_of_out, leading}
+use Rattle.group_sink.specs.Cells.{out_of_value, rank_of_out, leading}
 use Rattle.group_sink.specs.Parts.{rank_kept, value_over}
 use Rattle.group_sink.specs.Picked.{picked}
 use Rattle.group_sink.specs.Picks.{seen}
@@ -28,7 +28,7 @@ shown_sum count units scale = if unsigned_abs count == 0 then out.Null else out.
 
 -- what a cell shows of a group
 abbrev pub shown_in : Column → ℕ → Out
-shown_in (column.Values values) group = shown (seen (slice_index_or values group None))
+shown_in (column.Values values) group = out_of_value (seen (slice_index_or values group None))
 shown_in (column.Counts counts) group = out.Number (slice_index_or counts group (pos 0)) 0
 shown_in (column.Sums sums counts scale) group =
     shown_sum (slice_index_or counts group (pos 0)) (slice_index_or sums group (pos 0)) scale
@@ -54,7 +54,7 @@ abbrev pub sort_rank : Block → List Relation → List Combo → List ℕ → L
 sort_rank block tables members numbers columns (sort.Cell place) group =
     rank_of_out (slice_index_or (cells_at columns group) place out.Null)
 sort_rank block tables members numbers columns (sort.Column c) group =
-    rank_of_out (shown (leading (picked group numbers (map (value_over block tables c) members))))
+    rank_of_out (out_of_value (leading (picked group numbers (map (value_over block tables c) members))))
 
 abbrev pub placed_on : Block → List Relation → List Combo → List ℕ → List Column → ShapeOrder → ℕ → Placed
 placed_on block tables members numbers columns key group =

@@ -63,7 +63,8 @@ abbrev pub by_line_keys : Block → List Relation → List ShapeOrder → GroupL
 by_line_keys block tables [] x y = Equal
 by_line_keys block tables (key ∷ keys) x y =
     ordering_then
-    (ranks_sorted_by key.way (rank_of_out (sorted_on block tables key.on x)) (rank_of_out (sorted_on block tables key.on y)))
+    (ranks_sorted_by key.way (rank_of_out (sorted_on block tables key.on x))
+    (rank_of_out (sorted_on block tables key.on y)))
     (by_line_keys block tables keys x y)
 
 -- an element put among others, before the first that it doesn't come after

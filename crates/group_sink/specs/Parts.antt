@@ -1,5 +1,5 @@
 -- Serves proofs: elements by their keys, one key after another.
-use Rattle.std.specs.Prelude.{ℕ, Bool, ◌&&◌, ◌==◌, List, [], ◌∷◌, Option}
+use Rattle.std.specs.Prelude.{ℕ, Bool, ◌&&◌, ◌==◌, List, [], ◌∷◌, map, Option}
 use Rattle.std.specs.List.{list_all}
 use Rattle.std.specs.Option.{option_map}
 use Rattle.sq_value.specs.Key.{rank_of_key}
@@ -13,6 +13,7 @@ use Rattle.bag_meaning.specs.declared.combo.Combo.{Combo}
 use Rattle.result_sink.specs.Ready.{rows_of_combo}
 use Rattle.group_sink.specs.Cells.{is_same_rank}
 use Rattle.group_sink.specs.Lines.{value_of}
+use Rattle.group_sink.specs.Picked.{picked}
 use Rattle.group_sink.specs.declared.part.Part.{Part}
 
 -- the rank of a key that may be missing
@@ -51,3 +52,8 @@ value_over block tables column combo = value_of block tables column (rows_of_com
 -- its rank
 abbrev pub rank_over : Block → List Relation → ColumnOf → Combo → Option Rank
 rank_over block tables column combo = rank_of (value_over block tables column combo)
+
+-- the values of a column in the members of a group
+abbrev pub group_values : Block → List Relation → List Combo → List ℕ → ColumnOf → ℕ → List Value
+group_values block tables members numbers column group =
+    picked group numbers (map (value_over block tables column) members)

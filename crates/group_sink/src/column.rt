@@ -1,10 +1,9 @@
 //! What a cell shows of each group.
 ghost use Rattle.std.specs.Prelude.{◌≡◌, ◌≤◌, ◌<◌, ◌==◌, ℕ, pos, All, IfOk, None, length, map, slice_index_or, unsigned_abs};
 ghost use Rattle.result_sink.specs.Ready.{HasColumn};
-ghost use Rattle.group_sink.specs.Cells.{shown, rank_of_out, cell_over, aggregate};
+ghost use Rattle.group_sink.specs.Cells.{out_of_value, rank_of_out, cell_over, aggregate};
 ghost use Rattle.group_sink.specs.Lines as spec;
-ghost use Rattle.group_sink.specs.Parts.{rank_kept, value_over};
-ghost use Rattle.group_sink.specs.Picked.{picked};
+ghost use Rattle.group_sink.specs.Parts.{rank_kept, group_values};
 ghost use Rattle.group_sink.specs.Picks.{pick_of, seen};
 ghost use Rattle.group_sink.specs.Totals.{addend_of, total_by};
 ghost use Rattle.group_sink.specs.Columns.{shown_in, shown_sum, rank_in};
@@ -74,7 +73,7 @@ fn value_column<'t>(
     requires both { length numbers.now ≡ length members.now }
     requires within { All (λ (g : ℕ). g < groups) numbers.now }
     ensures { IfOk result (λ made. (group : ℕ) → group < groups → shown_in made group
-        ≡ shown (pick_of pick (picked group numbers.now (map (value_over block.now tables.now column) members.now)))) }
+        ≡ out_of_value (pick_of pick (group_values block.now tables.now members.now numbers.now column group))) }
 {
     let values = picked_values(alloc, block, tables, members, numbers, groups, column, pick)?;
     Ok(Column::Values(Items::from_vec(values)))
@@ -96,7 +95,7 @@ fn count_column<'t>(
     requires both { length numbers.now ≡ length members.now }
     requires within { All (λ (g : ℕ). g < groups) numbers.now }
     ensures { IfOk result (λ made. (group : ℕ) → group < groups → shown_in made group ≡ Out.Number
-        (total_by (addend_of what) (picked group numbers.now (map (value_over block.now tables.now column) members.now))) 0) }
+        (total_by (addend_of what) (group_values block.now tables.now members.now numbers.now column group)) 0) }
 {
     let counts = totals_of(alloc, block, tables, members, numbers, groups, column, what)?;
     Ok(Column::Counts(Items::from_vec(counts)))
@@ -117,8 +116,8 @@ fn sum_column<'t>(
     requires both { length numbers.now ≡ length members.now }
     requires within { All (λ (g : ℕ). g < groups) numbers.now }
     ensures { IfOk result (λ made. (group : ℕ) → group < groups → shown_in made group ≡ shown_sum
-        (total_by (addend_of Addend.Known) (picked group numbers.now (map (value_over block.now tables.now column) members.now)))
-        (total_by (addend_of Addend.Units) (picked group numbers.now (map (value_over block.now tables.now column) members.now)))
+        (total_by (addend_of Addend.Known) (group_values block.now tables.now members.now numbers.now column group))
+        (total_by (addend_of Addend.Units) (group_values block.now tables.now members.now numbers.now column group))
         (spec.scale_of block.now tables.now column)) }
 {
     let scale = scale_of(block, tables, column);
@@ -168,7 +167,7 @@ fn agg_column<'t>(
     requires within { All (λ (g : ℕ). g < groups) numbers.now }
     ensures { IfOk result (λ made. (group : ℕ) → group < groups → shown_in made group
         ≡ aggregate (spec.scale_of block.now tables.now column) kind
-        (picked group numbers.now (map (value_over block.now tables.now column) members.now))) }
+        (group_values block.now tables.now members.now numbers.now column group)) }
 {
     match kind {
         AggKind::CountAll => count_column(
@@ -235,7 +234,7 @@ pub(crate) fn column_of<'t>(
     requires within { All (λ (g : ℕ). g < groups) numbers.now }
     ensures { IfOk result (λ made. (group : ℕ) → group < groups → shown_in made group
         ≡ cell_over (spec.scale_of block.now tables.now column) agg
-        (picked group numbers.now (map (value_over block.now tables.now column) members.now))) }
+        (group_values block.now tables.now members.now numbers.now column group)) }
 {
     match agg {
         None => value_column(
@@ -254,7 +253,7 @@ pub(crate) fn column_of<'t>(
 
 /// What a shown value is compared by: the units of a number, or a text's bytes.
 fn units_key(value: Option<&Value>) -> Option<Key<'_>>
-    ensures { rank_kept result ≡ rank_of_out (shown (seen value.entry)) }
+    ensures { rank_kept result ≡ rank_of_out (out_of_value (seen value.entry)) }
 {
     match value {
         None => None,
@@ -310,7 +309,7 @@ pub(crate) fn key_in<'t>(column: &Column<'t>, group: usize) -> Option<Key<'t>>
 
 /// A value as a cell shows it, with a copy of its text.
 fn shown_value(alloc: Global, value: Option<&Value>) -> Result<Out, Memory>
-    ensures { IfOk result (λ out. out ≡ shown (seen value.entry)) }
+    ensures { IfOk result (λ out. out ≡ out_of_value (seen value.entry)) }
 {
     match value {
         None => Ok(Out::Null),

@@ -79,7 +79,8 @@ pub(crate) fn lines_at(
     columns: &[Column<'_>],
     groups: &[usize],
 ) -> Result<Vec<Line>, Memory>
-    ensures { IfOk result (λ lines. map (λ (line : TheLine). line.cells) lines.items ≡ map (cells_at columns.now) groups.now) }
+    ensures { IfOk result (λ lines. map (λ (line : TheLine). line.cells) lines.items
+        ≡ map (cells_at columns.now) groups.now) }
 {
     let mut lines = Vec::with_capacity(alloc, groups.len())?;
     for group in groups {

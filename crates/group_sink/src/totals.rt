@@ -1,8 +1,7 @@
 //! Counts and sums by group, over a column.
 ghost use Rattle.std.specs.Prelude.{◌≡◌, ◌≤◌, ◌<◌, ℕ, pos, All, IfOk, length, map, slice_index_or};
 ghost use Rattle.result_sink.specs.Ready.{HasColumn};
-ghost use Rattle.group_sink.specs.Parts.{value_over};
-ghost use Rattle.group_sink.specs.Picked.{picked};
+ghost use Rattle.group_sink.specs.Parts.{group_values};
 ghost use Rattle.group_sink.specs.Totals.{addend_of, addend_over, total_by};
 
 use crate::summing::sums_of;
@@ -92,7 +91,7 @@ pub(crate) fn totals_of(
     requires within { All (λ (g : ℕ). g < groups) numbers.now }
     ensures { IfOk result (λ totals. (group : ℕ) → group < groups
         → slice_index_or totals.items group (pos 0)
-        ≡ total_by (addend_of what) (picked group numbers.now (map (value_over block.now tables.now column) members.now))) }
+        ≡ total_by (addend_of what) (group_values block.now tables.now members.now numbers.now column group)) }
 {
     let units = addends(alloc, block, tables, members, column, what)?;
     sums_of(alloc, groups, numbers, units.as_slice())

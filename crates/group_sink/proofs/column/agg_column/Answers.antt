@@ -2,7 +2,7 @@ use Rattle.std.proofs.Common.{ℕ, List, ap, sym, ◌∙◌, refl}
 use Rattle.std.specs.Prelude.{ℤ, map}
 use Rattle.sq_value.specs.declared.value.Value.{Value}
 use Rattle.sq_expr.specs.declared.shape.AggKind.{AggKind}
-use Rattle.group_sink.specs.Cells.{aggregate, shown, least_first, greatest_first}
+use Rattle.group_sink.specs.Cells.{aggregate, out_of_value, least_first, greatest_first}
 use Rattle.group_sink.specs.Lines as spec
 use Rattle.group_sink.specs.Parts.{value_over}
 use Rattle.group_sink.specs.Picked.{picked}
@@ -41,7 +41,7 @@ returns-in-Min c =
     let scale = spec.scale_of c.args.block.now c.args.tables.now c.args.column in
     let values : ℕ → List Value = λ group. picked group c.args.numbers.now (map (value_over c.args.block.now c.args.tables.now c.args.column) c.args.members.now) in
     on_ok c.value_column.result
-    (λ made h. λ group below. h group below ∙ ap shown (pick_of-By least_first refl (values group)) ∙ ap (λ (k : AggKind). aggregate scale k (values group)) (sym c.in-Min.is))
+    (λ made h. λ group below. h group below ∙ ap out_of_value (pick_of-By least_first refl (values group)) ∙ ap (λ (k : AggKind). aggregate scale k (values group)) (sym c.in-Min.is))
     c.value_column.ensures
 
 pub returns-in-Max : goal.returns-in-Max
@@ -49,5 +49,5 @@ returns-in-Max c =
     let scale = spec.scale_of c.args.block.now c.args.tables.now c.args.column in
     let values : ℕ → List Value = λ group. picked group c.args.numbers.now (map (value_over c.args.block.now c.args.tables.now c.args.column) c.args.members.now) in
     on_ok c.value_column-in-Max.result
-    (λ made h. λ group below. h group below ∙ ap shown (pick_of-By greatest_first refl (values group)) ∙ ap (λ (k : AggKind). aggregate scale k (values group)) (sym c.in-Max.is))
+    (λ made h. λ group below. h group below ∙ ap out_of_value (pick_of-By greatest_first refl (values group)) ∙ ap (λ (k : AggKind). aggregate scale k (values group)) (sym c.in-Max.is))
     c.value_column-in-Max.ensures

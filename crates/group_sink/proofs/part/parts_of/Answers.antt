@@ -1,7 +1,7 @@
-use Rattle.std.proofs.Common.{List, [], ◌∷◌, ◌++◌, get_or, take, sym, ap, ◌∙◌}
+use Rattle.std.proofs.Common.{List, [], ◌∷◌, ◌++◌, get_or, sym, ap, ◌∙◌}
 use Rattle.std.specs.Prelude.{map}
 use Rattle.std.proofs.lemmas.List.{map-append}
-use Rattle.group_sink.specs.Parts.{Pair, seen_part, pairs, rank_kept}
+use Rattle.group_sink.specs.Parts.{Pair, seen_part, rank_kept}
 use Rattle.group_sink.specs.declared.part.Part.{Part}
 use Rattle.group_sink.proofs.PairLists.{pairs_more}
 use Rattle.group_sink.proofs.part.parts_of.Goals as goal

@@ -1,5 +1,4 @@
-use Rattle.std.proofs.Common.{◌≡◌, List, ℕ, map, ap, sym, ◌∙◌, subst}
-use Rattle.std.specs.Prelude.{AllPairs}
+use Rattle.std.proofs.Common.{List, ℕ, map, ap, ◌∙◌, subst}
 use Rattle.std.specs.List.Sorted.{IsPermutation}
 use Rattle.std.proofs.lemmas.List.Sorted.{IsPermutation-map, IsPermutation-refl}
 use Rattle.bag_meaning.specs.declared.combo.Combo.{Combo}

@@ -10,7 +10,7 @@ use Rattle.result_sink.specs.Ready.{rows_of_combo}
 use Rattle.group_sink.specs.Cells.{cell_over, is_same_line}
 use Rattle.group_sink.specs.Columns.{cells_at, placed_on, by_sort_keys}
 use Rattle.group_sink.specs.Groups.{firsts}
-use Rattle.group_sink.specs.Lines.{scale_of, stably_in, limited}
+use Rattle.group_sink.specs.Lines.{scale_of, stably_in}
 use Rattle.group_sink.specs.Numbers.{member_numbers, group_count}
 use Rattle.group_sink.specs.Parts.{value_over}
 use Rattle.group_sink.specs.Picked.{picked}
