@@ -1,10 +1,10 @@
 -- A cache after a list of calls.
-use Rattle.std.proofs.Common.{◌≡◌, ℕ, suc, ◌+◌, ◌-◌, ◌≤◌, Bool, true, false, cond, List, [], ◌∷◌, length, take, Option, Some, None, refl, subst, arith, length-take}
+use Rattle.std.proofs.Common.{◌≡◌, ℕ, suc, ◌+◌, ◌≤◌, Bool, true, false, cond, List, [], ◌∷◌, length, Option, Some, None, refl, subst, arith, length-take}
 use Rattle.std.specs.Prelude.{is_some}
 use Rattle.std.specs.Map.{lookup, remove_entry}
 use Rattle.sq_value.specs.declared.value.Value.{Value}
 use Rattle.sq_value.specs.declared.value.Truth.{Truth}
-use Rattle.predicate_cache.specs.Calls.{given, is_key, key_of}
+use Rattle.predicate_cache.specs.Calls.{given, is_key, known_by}
 use Rattle.predicate_cache.specs.Cached.{Remembered, Call, after_key, after_call, after_calls, after_hit, after_miss}
 use Rattle.predicate_cache.specs.Kept.{AreGiven}
 use Rattle.predicate_cache.specs.declared.call_key.CallKey.{CallKey}
@@ -67,4 +67,4 @@ module _ {F : Type 0} (gives : ℕ → Value → Value → Truth) where
   IsSound-after_calls room calls (c ∷ list) old h =
       let same : (calls + 1) + length list ≡ calls + suc (length list) = omega arith in
       subst (λ (n : ℕ). IsSound room n (after_calls gives (c ∷ list) old)) same
-      (IsSound-after_calls room (calls + 1) list (after_call gives c.keeps c.number c.x c.y old) (by_call room calls c.keeps (key_of c.number c.x c.y) old h))
+      (IsSound-after_calls room (calls + 1) list (after_call gives c.keeps c.number c.x c.y old) (by_call room calls c.keeps (known_by c.number c.x c.y) old h))

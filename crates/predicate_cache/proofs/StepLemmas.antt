@@ -6,7 +6,7 @@ use Rattle.std.specs.Map.{lookup, remove_entry}
 use Rattle.lru.specs.LruCache.{promoted}
 use Rattle.sq_value.specs.declared.value.Value.{Value}
 use Rattle.sq_value.specs.declared.value.Truth.{Truth}
-use Rattle.predicate_cache.specs.Calls.{given, is_key, key_of}
+use Rattle.predicate_cache.specs.Calls.{given, is_key, known_by}
 use Rattle.predicate_cache.specs.Cached.{Remembered, after_key, after_call, after_hit, after_miss}
 use Rattle.predicate_cache.specs.Kept.{AreGiven}
 use Rattle.predicate_cache.specs.declared.call_key.CallKey.{CallKey}
@@ -41,7 +41,7 @@ module _ (gives : ℕ → Value → Value → Truth) (key : CallKey) where
       subst (AreGiven gives) (sym (first ∙ promoted-found es t h found))
       (AreGiven-first gives key (remove_entry (is_key key) es) (AreGiven-remove_entry gives key es h))
 
-  module _ {F : Type 0} (functions : F) (number : ℕ) (x y : Value) (is : key_of number x y ≡ Some key) where
+  module _ {F : Type 0} (functions : F) (number : ℕ) (x y : Value) (is : known_by number x y ≡ Some key) where
     after_found : (old : Remembered F) (t : Truth) → lookup (is_key key) old.entries ≡ Some t
         → after_call gives true number x y old ≡ after_hit gives key old
     after_found old t found =

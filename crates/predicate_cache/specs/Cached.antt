@@ -3,7 +3,7 @@ use Rattle.std.specs.Prelude.{ℕ, ◌+◌, ◌-◌, ◌^◌, Bool, true, false,
 use Rattle.std.specs.Map.{lookup, remove_entry}
 use Rattle.sq_value.specs.declared.value.Value.{Value}
 use Rattle.sq_value.specs.declared.value.Truth.{Truth}
-use Rattle.predicate_cache.specs.Calls.{key_of, is_key, given}
+use Rattle.predicate_cache.specs.Calls.{known_by, is_key, given}
 use Rattle.predicate_cache.specs.declared.call_key.CallKey.{CallKey}
 
 -- a cache: the predicates that it asks, how many answers it may keep, those that it keeps, and how often it gave one
@@ -36,8 +36,9 @@ after_key gives keeps (Some key) old =
     if is_some (lookup (is_key key) old.entries) then after_hit gives key old else after_miss gives keeps key old
 
 -- after a call
-abbrev pub after_call : {F : Type 0} → (ℕ → Value → Value → Truth) → Bool → ℕ → Value → Value → Remembered F → Remembered F
-after_call gives keeps number x y old = after_key gives keeps (key_of number x y) old
+abbrev pub after_call : {F : Type 0} → (ℕ → Value → Value → Truth) → Bool → ℕ → Value → Value → Remembered F
+    → Remembered F
+after_call gives keeps number x y old = after_key gives keeps (known_by number x y) old
 
 -- a call, and whether its answer was put there, if it wasn't kept
 pub record Call : Type 0 where

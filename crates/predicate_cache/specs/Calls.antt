@@ -15,8 +15,8 @@ argument (value.Text t) = None
 argument (value.Decimal d) = None
 
 -- what a call is known by, where both arguments are known by something
-abbrev pub key_of : ℕ → Value → Value → Option CallKey
-key_of number x y =
+abbrev pub known_by : ℕ → Value → Value → Option CallKey
+known_by number x y =
     option_and_then (λ a. option_map (λ b. record { number = number; x = a; y = b }) (argument y)) (argument x)
 
 -- the argument that is known by this

@@ -4,7 +4,7 @@ ghost use Rattle.sq_value.specs.Relation.{HasKind};
 ghost use Rattle.predicate_cache.specs.Cached.{unused, after_call};
 ghost use Rattle.predicate_cache.specs.Kept.{IsCache};
 
-use crate::call_key::key_of;
+use crate::call_key::known_by;
 use crate::store::{Store, count, found, keep};
 use lru::LruCache;
 use sq_value::{Memory, Predicates, Truth, Value};
@@ -86,11 +86,12 @@ impl<'f, F: Predicates> Cache<'f, F> {
     /// It can't be refused: where there is no memory to keep a new answer, the cache stays as it is.
     pub fn call(&mut self, number: u8, x: &Value, y: &Value) -> Truth
         requires known { IsSome (F.kinds_of self.old.functions number) }
-        requires fits { IfSome (F.kinds_of self.old.functions number) (λ k. HasKind k.first x.now × HasKind k.second y.now) }
+        requires fits { IfSome (F.kinds_of self.old.functions number)
+            (λ k. HasKind k.first x.now × HasKind k.second y.now) }
         ensures truth { result ≡ F.gives number x.now y.now }
         ensures cache { (keeps : Bool) × (self.new ≡ after_call F.gives keeps number x.now y.now self.old) }
     {
-        let Some(key) = key_of(number, x, y) else {
+        let Some(key) = known_by(number, x, y) else {
             return self.functions.call(number, x, y);
         };
         if let Some(truth) = found(&mut self.store, key) {

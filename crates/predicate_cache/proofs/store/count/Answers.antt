@@ -1,4 +1,4 @@
-use Rattle.std.proofs.Common.{◌≡◌, [], None, sym, subst, arith, Option}
+use Rattle.std.proofs.Common.{[], sym, subst, arith, Option}
 use Rattle.std.specs.List.{IsDistinct}
 use Rattle.lru.specs.LruCache.{LruCache}
 use Rattle.sq_value.specs.declared.value.Truth.{Truth}

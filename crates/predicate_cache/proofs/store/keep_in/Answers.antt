@@ -1,4 +1,4 @@
-use Rattle.std.proofs.Common.{◌≡◌, ℕ, ◌-◌, ◌<◌, ◌∷◌, take, Option, inl, inr, ap, ◌∙◌, ◌⊎◌, Result, Ok, Err}
+use Rattle.std.proofs.Common.{◌-◌, ◌<◌, ◌∷◌, take, Option, inl, inr, ap, ◌∙◌, ◌⊎◌, Result, Ok, Err}
 use Rattle.std.specs.Option.{option_map_or}
 use Rattle.std.specs.Prelude.{OnOk, OnErr}
 use Rattle.std.specs.Map.{remove_entry}

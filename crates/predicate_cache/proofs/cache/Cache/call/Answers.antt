@@ -5,10 +5,9 @@ use Rattle.sq_value.specs.declared.value.Value.{Value}
 use Rattle.sq_value.specs.declared.value.Truth.{Truth}
 use Rattle.predicate_cache.specs.Cached.{after_call}
 use Rattle.predicate_cache.specs.Calls.{is_key}
-use Rattle.predicate_cache.specs.Kept.{AreGiven}
 use Rattle.predicate_cache.specs.Store.{entries_of, room_of}
 use Rattle.predicate_cache.specs.declared.call_key.CallKey.{CallKey}
-use Rattle.predicate_cache.proofs.KeyLemmas.{given-key_of}
+use Rattle.predicate_cache.proofs.KeyLemmas.{given-known_by}
 use Rattle.predicate_cache.proofs.EntryLemmas.{given-lookup}
 use Rattle.predicate_cache.proofs.StepLemmas.{IsPut, seen-found, seen-kept, AreGiven-kept, AreGiven-promoted, promoted-none}
 use Rattle.predicate_cache.proofs.cache.Cache.call.Goals as goal
@@ -24,7 +23,7 @@ pub returns-in-Some-found-clause-truth : goal.returns-in-Some-found-clause-truth
 returns-in-Some-found-clause-truth g c =
     let gives = g.F.Predicates.gives in
     given-lookup gives c.in-Some.key (entries_of c.self.inside.store) c.in-Some-found.truth c.self.invariant (sym c.in-Some-found.ensures.answer)
-    ∙ given-key_of gives c.args.number c.args.x.now c.args.y.now c.in-Some.key (sym c.in-Some.ensures)
+    ∙ given-known_by gives c.args.number c.args.x.now c.args.y.now c.in-Some.key (sym c.in-Some.ensures)
 
 pub returns-in-Some-found-clause-cache : goal.returns-in-Some-found-clause-cache
 returns-in-Some-found-clause-cache g c =
@@ -64,7 +63,7 @@ invariant_of-self-2 g c =
     let key = c.in-Some.key in
     let old = c.self.inside.store in
     AreGiven-kept gives key (entries_of old) (entries_of c.keep.new.store) (room_of old) c.call-truth.result c.self.invariant
-    (c.call-truth.ensures ∙ sym (given-key_of gives c.args.number c.args.x.now c.args.y.now key (sym c.in-Some.ensures)))
+    (c.call-truth.ensures ∙ sym (given-known_by gives c.args.number c.args.x.now c.args.y.now key (sym c.in-Some.ensures)))
     (put_of gives key c.call-truth.result (entries_of old) (entries_of c.found.new.store) (entries_of c.keep.new.store) (room_of old) (room_of c.found.new.store)
     (sym c.in_default-found.ensures.answer) c.found.ensures.first c.found.ensures.room c.keep.ensures.entries)
 
@@ -76,7 +75,7 @@ returns-clause-cache g c =
     let kept = seen-kept gives key old.functions.now c.args.number c.args.x.now c.args.y.now (sym c.in-Some.ensures)
     (entries_of old.store) (entries_of c.keep.new.store) (room_of old.store) (room_of c.keep.new.store) old.hits c.call-truth.result
     (sym c.in_default-found.ensures.answer)
-    (c.call-truth.ensures ∙ sym (given-key_of gives c.args.number c.args.x.now c.args.y.now key (sym c.in-Some.ensures)))
+    (c.call-truth.ensures ∙ sym (given-known_by gives c.args.number c.args.x.now c.args.y.now key (sym c.in-Some.ensures)))
     (put_of gives key c.call-truth.result (entries_of old.store) (entries_of c.found.new.store) (entries_of c.keep.new.store) (room_of old.store) (room_of c.found.new.store)
     (sym c.in_default-found.ensures.answer) c.found.ensures.first c.found.ensures.room c.keep.ensures.entries)
     (c.keep.ensures.room ∙ c.found.ensures.room) in
