@@ -13,7 +13,7 @@ use std::alloc::Global;
 use std::test::Fail;
 
 /// The word of random events, beside those of policies.
-pub const EVENTS: &str = "events";
+const EVENTS: &str = "events";
 
 /// How each table is reached where a block is tried that can't be reached as it was drawn.
 const SCANS: &str = "s s s";
@@ -26,8 +26,8 @@ struct Tried {
     wrong: String,
 }
 
-/// How many keys a block's run asked for, by random events or under the policy of a word, if it found the bag.
-pub fn keys_of<F: Predicates>(
+// How many keys a block's run asked for, by random events or under the policy of a word, if it found the bag.
+fn keys_of<F: Predicates>(
     alloc: Global,
     block: &Block,
     tables: &Tables,

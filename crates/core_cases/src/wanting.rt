@@ -3,16 +3,141 @@
 //! `tools/fail-alloc` refuses the allocations of these tests, one after another. Where their sample finds no memory
 //! they end with that error; what is wrong is an assertion that fails.
 
-use crate::blocks::{EVENTS, keys_of};
+ghost use Rattle.sq_expr.specs.Fits.{IsFit};
+ghost use Rattle.sq_expr.specs.Reach.{IsReachable};
+
+use crate::compared::is_bag;
 use crate::drawn::{statement, tables, ways};
+use crate::events::event;
+use crate::policies::keys_by_policy;
 use case_kit::{block_of_case, catalogue_of_lines};
-use sq_value::NoPredicates;
+use eddy_core::{Core, StepRefused};
+use sq_expr::Block;
+use sq_value::{Memory, NoPredicates, Predicates, Tables};
 use std::alloc::Global;
 use std::test::Fail;
+use tuple_span::Tuple;
 
 /// What the random blocks are drawn by: one of three aliases, and one of two with a range beside an equality. Each has
 /// an alias that look-ups alone reach, and combinations.
 const SEEDS: [u64; 2] = [3529, 542];
+
+/// How often a step may want memory before a test ends with that error.
+const PATIENCE: u32 = 20;
+
+/// How the blocks are tried.
+const EVENTS: &str = "events";
+
+// A number that depends on both (Knuth's MMIX generator).
+fn mixed(sum: u64, part: u64) -> u64 {
+    sum.wrapping_mul(6364136223846793005)
+        .wrapping_add(part)
+        .wrapping_add(1442695040888963407)
+}
+
+// A tuple as a number.
+fn sum_of_tuple(tuple: &Tuple) -> u64 {
+    let mut sum = u64::from(tuple.span());
+    for row in tuple.rows() {
+        sum = mixed(sum, u64::from(row));
+    }
+    for conjunct in 0..48 {
+        sum = mixed(sum, u64::from(tuple.done(conjunct)));
+    }
+    sum = mixed(sum, tuple.stamp().map_or(0, |stamp| stamp.wrapping_add(1)));
+    mixed(sum, u64::from(tuple.hops()))
+}
+
+// All that a core tells of its state as one number, which takes no memory.
+fn sum_of<F: Predicates>(core: &Core<'_, F>) -> u64 {
+    let mut sum = u64::from(core.ended());
+    for tuple in core.pending() {
+        sum = mixed(sum, sum_of_tuple(tuple));
+    }
+    sum = mixed(sum, core.pending().len() as u64);
+    for combo in core.results() {
+        for row in combo.rows {
+            sum = mixed(sum, u64::from(row));
+        }
+        sum = mixed(sum, combo.stamp);
+    }
+    for entry in core.built() {
+        sum = mixed(mixed(sum, u64::from(entry.alias)), u64::from(entry.row));
+    }
+    sum = mixed(sum, core.built().len() as u64);
+    for key in core.asked() {
+        sum = mixed(mixed(sum, u64::from(key.fetched)), u64::from(key.ended));
+    }
+    mixed(sum, core.asked().len() as u64)
+}
+
+// Tries random events until the core has ended. Whether it did, and each step that wanted memory left it as it was.
+fn drive<F: Predicates>(
+    alloc: Global,
+    core: &mut Core<'_, F>,
+    state: &mut u64,
+) -> Result<bool, Fail> {
+    let mut patience = PATIENCE;
+    for _ in 0..200_000 {
+        if core.pending().is_empty() && core.ended() {
+            return Ok(true);
+        }
+        let event = event(state, core.pending().len(), core.asked().len());
+        let before = sum_of(core);
+        if core.step(alloc, event) == Err(StepRefused::Memory) {
+            if sum_of(core) != before {
+                return Ok(false);
+            }
+            if patience == 0 {
+                return Err(Fail::from(Memory));
+            }
+            patience = patience.saturating_sub(1);
+        }
+    }
+    Ok(false)
+}
+
+// How many keys random events on a block have asked for at its end, if they come to an end with its bag.
+fn keys_by_events<F: Predicates>(
+    alloc: Global,
+    block: &Block,
+    tables: &Tables,
+    functions: &F,
+    state: &mut u64,
+) -> Result<Option<u64>, Fail>
+    requires fits { IsFit (F.kinds_of functions.now) tables.now block.now }
+    requires reachable { IsReachable block.now }
+{
+    let mut core = Core::start(alloc, block, tables, functions)?;
+    if !drive(alloc, &mut core, state)? {
+        return Ok(None);
+    }
+    let (found, built) = (core.results(), core.built());
+    if !is_bag(alloc, block, tables, functions, found, built)? {
+        return Ok(None);
+    }
+    Ok(Some(core.asked().len() as u64))
+}
+
+// Whether a block is run to its bag, by random events or under the policy of a word, and asks for keys.
+fn is_right<F: Predicates>(
+    alloc: Global,
+    block: &Block,
+    tables: &Tables,
+    functions: &F,
+    state: &mut u64,
+    word: &str,
+) -> Result<bool, Fail>
+    requires fits { IsFit (F.kinds_of functions.now) tables.now block.now }
+    requires reachable { IsReachable block.now }
+{
+    let keys = if word == EVENTS {
+        keys_by_events(alloc, block, tables, functions, state)?
+    } else {
+        keys_by_policy(alloc, block, tables, functions, word)?
+    };
+    Ok(keys.unwrap_or(0) > 0)
+}
 
 // Whether a random block is run to its bag and asks for keys.
 fn try_block(alloc: Global, state: &mut u64, word: &str) -> Result<bool, Fail> {
@@ -24,8 +149,7 @@ fn try_block(alloc: Global, state: &mut u64, word: &str) -> Result<bool, Fail> {
     match block_of_case(alloc, &catalogue, ways, text, &NoPredicates)? {
         Some(block) => {
             let tables = catalogue.tables();
-            let keys = keys_of(alloc, &block, tables, &NoPredicates, state, word)?;
-            Ok(keys.unwrap_or(0) > 0)
+            is_right(alloc, &block, tables, &NoPredicates, state, word)
         }
         None => Ok(false),
     }
