@@ -18,6 +18,7 @@ pub mod RangeRises
 pub mod SortLemmas
 pub mod StableLemmas
 pub mod ReportLemmas
+pub mod CountLemmas
 pub mod ProductLemmas
 pub mod TextsLemmas
 mod WorkedRows

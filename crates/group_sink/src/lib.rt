@@ -3,6 +3,7 @@
 
 mod apart;
 mod column;
+mod counting;
 mod grouping;
 mod keys;
 mod line;

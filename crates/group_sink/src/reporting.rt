@@ -14,6 +14,7 @@ ghost use Rattle.group_sink.specs.declared.line.Line.{Line as TheLine};
 
 use crate::apart::{count_kinds, groups_apart};
 use crate::column::Column;
+use crate::counting::{counted, counts_alone};
 use crate::keys::group_numbers;
 use crate::line::Line;
 use crate::making::{columns_of, lines_at};
@@ -165,6 +166,9 @@ pub fn report(
     ensures { IfOk result (λ lines. map (λ (line : TheLine). line.cells) lines.items
         ≡ lines_of block.now tables.now shape.now (in_product_order (map (rows_of_combo block.now) combos.now))) }
 {
+    if counts_alone(shape) {
+        return counted(alloc, shape, combos.len());
+    }
     if rises(block, tables, combos) {
         return report_over(alloc, block, shape, tables, combos);
     }

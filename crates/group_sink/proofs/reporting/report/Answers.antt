@@ -4,6 +4,7 @@ use Rattle.std.proofs.lemmas.List.Sorted.{IsPermutation-map, IsPermutation-refl}
 use Rattle.bag_meaning.specs.declared.combo.Combo.{Combo}
 use Rattle.result_sink.specs.Ready.{rows_of_combo}
 use Rattle.group_sink.specs.Lines.{lines_of}
+use Rattle.group_sink.proofs.CountLemmas.{report-counted}
 use Rattle.group_sink.proofs.ProductLemmas.{product-order, rows-differ}
 use Rattle.group_sink.proofs.Results.{on_ok}
 use Rattle.group_sink.proofs.reporting.report.Goals as goal
@@ -32,3 +33,10 @@ returns c =
     (product-order block tables c.requires.unordered (map (rows_of_combo block) combos) (map (rows_of_combo block) members) (rows-differ block combos c.requires.apart)
     (IsPermutation-map (rows_of_combo block) combos members moved) c.in_ok-members.ensures.rises))
     c.report_over-2.ensures
+
+pub returns-then-counts_alone : goal.returns-then-counts_alone
+returns-then-counts_alone c =
+    let e = c.if-counts_alone.true in
+    on_ok c.counted.result
+    (λ lines h. h ∙ report-counted c.args.block.now c.args.tables.now c.args.shape.now c.args.combos.now (c.counts_alone.ensures.grouped e) (c.counts_alone.ensures.keys e) (c.counts_alone.ensures.cells e))
+    c.counted.ensures
