@@ -1,5 +1,7 @@
 pub mod ApartLemmas
 pub mod AnswerLemmas
+pub mod LineLemmas
 pub mod TallyLemmas
 pub mod ProgressLemmas
+pub mod TextLemmas
 pub mod CountLemmas

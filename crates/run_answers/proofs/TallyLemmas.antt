@@ -24,7 +24,7 @@ use Rattle.run_answers.specs.Answering.{AnswersOne, PutBoth, IsLineFor, Lined, O
 use Rattle.run_answers.specs.Wrote.{Wrote}
 use Rattle.run_answers.specs.Text.{block_text}
 use Rattle.run_answers.specs.Seen.{Sink}
-use Rattle.run_answers.specs.Tally.{AreLines, IsLine, line_of_counts}
+use Rattle.run_answers.specs.Tally.{IsTally, line_of_counts}
 use Rattle.run_answers.specs.declared.stopping.Stop.{Stop}
 use Rattle.run_answers.specs.declared.stopping.Stop.TheVariants as stop
 use Rattle.run_answers.proofs.AnswerLemmas.{answer_permutes, wrote_no_memory, wrote_behind, wrote_front}
@@ -33,47 +33,12 @@ use Rattle.run_answers.proofs.AnswerLemmas.{answer_permutes, wrote_no_memory, wr
 abbrev Gives : Type 0
 Gives = ℕ → Value → Value → Truth
 
--- ---- lines
-
-pub AreLines-none : (tally : Bool) (gives : Gives) (tables : List Relation) (number : ℕ) → AreLines tally gives tables number [] []
-unfolding AreLines
-AreLines-none tally gives tables number = refl
-
-pub AreLines-one : (tally : Bool) (gives : Gives) (tables : List Relation) (number : ℕ) (block : Block) (line : List ℕ) → IsLine tally gives tables number block line
-    → AreLines tally gives tables number (block ∷ []) line
-unfolding AreLines
-AreLines-one tally gives tables number block line h = (line, [], h, refl, sym (append-nil line))
-
-pub AreLines-append : (tally : Bool) (gives : Gives) (tables : List Relation) (number : ℕ) (xs ys : List Block) (first second : List ℕ)
-    → AreLines tally gives tables number xs first → AreLines tally gives tables (number + length xs) ys second
-    → AreLines tally gives tables number (xs ++ ys) (first ++ second)
-unfolding AreLines
-AreLines-append tally gives tables number [] ys first second h k =
-    let same : number + length {A = Block} [] ≡ number = omega arith in
-    subst (λ (l : List ℕ). AreLines tally gives tables number ys (l ++ second)) (sym h)
-    (subst (λ (n : ℕ). AreLines tally gives tables n ys second) same k)
-AreLines-append tally gives tables number (x ∷ xs) ys first second h k =
-    let same : number + length (x ∷ xs) ≡ (number + 1) + length xs = omega arith in (
-      h.0,
-      h.1 ++ second,
-      h.2,
-      AreLines-append tally gives tables (number + 1) xs ys h.1 second h.3 (subst (λ (n : ℕ). AreLines tally gives tables n ys second) same k),
-      ap (λ (l : List ℕ). l ++ second) h.4 ∙ append_assoc h.0 h.1 second,
-    )
-
--- where no lines are wanted there are none
-pub lines_none : (gives : Gives) (tables : List Relation) (number : ℕ) (blocks : List Block) (lines : List ℕ)
-    → AreLines false gives tables number blocks lines → lines ≡ []
-unfolding AreLines
-lines_none gives tables number [] lines h = h
-lines_none gives tables number (x ∷ xs) lines h = h.4 ∙ ap (λ (l : List ℕ). l ++ h.1) h.2 ∙ lines_none gives tables (number + 1) xs h.1 h.3
-
 -- ---- the line of a statement
 
 -- the line of a run's counts
 pub line_right : (gives : Gives) (tables : List Relation) (number : ℕ) (block : Block) (combos : List Combo) (log seen : List Built) (looked : List LookedUp)
     (hops : ℕ) (line : List ℕ) → IsRecorded gives block tables combos log (map as_mark looked) hops → seen ≡ log
-    → line ≡ line_of_counts number (length block.aliases) seen hops (length looked) → IsLineFor true gives tables number block (Some line)
+    → line ≡ line_of_counts number (length block.aliases) seen hops (length looked) → IsLineFor true (IsTally gives tables) number block (Some line)
 line_right gives tables number block combos log seen looked hops line h same e = record {
   right = record {
     combos = combos;
@@ -88,18 +53,18 @@ line_right gives tables number block combos log seen looked hops line h same e =
   none = λ q. absurd cc;
 }
 
-pub line_none : (gives : Gives) (tables : List Relation) (number : ℕ) (block : Block) → IsLineFor false gives tables number block None
+pub line_none : (gives : Gives) (tables : List Relation) (number : ℕ) (block : Block) → IsLineFor false (IsTally gives tables) number block None
 line_none gives tables number block = record { right = refl; none = λ q. refl }
 
 -- ---- one statement
 
 -- the error that a `?` hands on
-pub one_through : (tally : Bool) (gives : Gives) (tables : List Relation) (number : ℕ) (block : Block) (text : List ℕ)
+pub one_through : {A : Type 0} (tally : Bool) (IsRight : ℕ → A → List ℕ → Type 0) (number : ℕ) (block : A) (text : List ℕ)
     (old new noted noting : Sink) (r : Result (Unit {0}) Stop) (y : Stop) → IsErrAnd r (λ x. x ≡ y)
-    → AnswersOne tally gives tables number block text old new noted noting (Err y) → AnswersOne tally gives tables number block text old new noted noting r
-one_through tally gives tables number block text old new noted noting r y h a =
+    → AnswersOne tally IsRight number block text old new noted noting (Err y) → AnswersOne tally IsRight number block text old new noted noting r
+one_through tally IsRight number block text old new noted noting r y h a =
     let q = err_from_is_err_and r h in
-    subst (λ (x : Result (Unit {0}) Stop). AnswersOne tally gives tables number block text old new noted noting x) (sym (q.1 ∙ ap Err q.2)) a
+    subst (λ (x : Result (Unit {0}) Stop). AnswersOne tally IsRight number block text old new noted noting x) (sym (q.1 ∙ ap Err q.2)) a
 
 -- a text that was put whole, and then a line
 pub put_line_behind : (text : List ℕ) (line : Option (List ℕ)) (old new noted noting : Sink) (r : Result (Unit {0}) Stop)
@@ -150,36 +115,36 @@ told_anyway (Err stop.Notes) h = h
 told_anyway (Err stop.Memory) h = tt
 
 -- the text and the line of what was found
-pub one_put : (tally : Bool) (gives : Gives) (tables : List Relation) (number : ℕ) (block : Block) (text other : List ℕ) (line : Option (List ℕ))
-    (old new noted noting : Sink) (r : Result (Unit {0}) Stop) → text ≡ other → IsLineFor tally gives tables number block line
-    → PutBoth text line old new noted noting r → AnswersOne tally gives tables number block other old new noted noting r
-one_put tally gives tables number block text other line old new noted noting r e right h =
+pub one_put : {A : Type 0} (tally : Bool) (IsRight : ℕ → A → List ℕ → Type 0) (number : ℕ) (block : A) (text other : List ℕ) (line : Option (List ℕ))
+    (old new noted noting : Sink) (r : Result (Unit {0}) Stop) → text ≡ other → IsLineFor tally IsRight number block line
+    → PutBoth text line old new noted noting r → AnswersOne tally IsRight number block other old new noted noting r
+one_put tally IsRight number block text other line old new noted noting r e right h =
     record { line = line; right = told_anyway r right; put = put_text text other line old new noted noting r e h }
 
 -- the same of the rows of the answer
 pub one_found : (tally : Bool) (gives : Gives) (tables : List Relation) (number : ℕ) (block : Block) (rows : List (List ℕ)) (line : Option (List ℕ))
-    (old new noted noting : Sink) (r : Result (Unit {0}) Stop) → rows ≡ answer gives block tables → IsLineFor tally gives tables number block line
+    (old new noted noting : Sink) (r : Result (Unit {0}) Stop) → rows ≡ answer gives block tables → IsLineFor tally (IsTally gives tables) number block line
     → PutBoth (answer_text block tables rows) line old new noted noting r
-    → AnswersOne tally gives tables number block (block_text gives tables block) old new noted noting r
+    → AnswersOne tally (IsTally gives tables) number block (block_text gives tables block) old new noted noting r
 one_found tally gives tables number block rows line old new noted noting r e right h =
-    one_put tally gives tables number block (answer_text block tables rows) (block_text gives tables block) line old new noted noting r
+    one_put tally (IsTally gives tables) number block (answer_text block tables rows) (block_text gives tables block) line old new noted noting r
     (ap (λ (x : List (List ℕ)). answer_text block tables x) e) right h
 
 -- want of memory, before anything of a text was put
-pub one_unfound : (tally : Bool) (gives : Gives) (tables : List Relation) (number : ℕ) (block : Block) (text : List ℕ) (old noted : Sink) → text ≢ []
-    → AnswersOne tally gives tables number block text old old noted noted (Err stop.Memory)
-one_unfound tally gives tables number block text old noted some = record {
+pub one_unfound : {A : Type 0} (tally : Bool) (IsRight : ℕ → A → List ℕ → Type 0) (number : ℕ) (block : A) (text : List ℕ) (old noted : Sink) → text ≢ []
+    → AnswersOne tally IsRight number block text old old noted noted (Err stop.Memory)
+one_unfound tally IsRight number block text old noted some = record {
   line = None;
   right = tt;
   put = put_wanting text None old old noted (wrote_no_memory old text) ([], text, refl, some, Adds-nothing old.written);
 }
 
 -- a text before that of a statement: the output took it, or didn't
-pub one_behind : (tally : Bool) (gives : Gives) (tables : List Relation) (number : ℕ) (block : Block) (first second : List ℕ)
+pub one_behind : {A : Type 0} (tally : Bool) (IsRight : ℕ → A → List ℕ → Type 0) (number : ℕ) (block : A) (first second : List ℕ)
     (old mid new noted noting : Sink) (q r : Result (Unit {0}) Stop) → q ≡ Ok tt → Wrote old mid first (of_output q)
-    → AnswersOne tally gives tables number block second mid new noted noting r
-    → AnswersOne tally gives tables number block (first ++ second) old new noted noting r
-one_behind tally gives tables number block first second old mid new noted noting q r e v a = record {
+    → AnswersOne tally IsRight number block second mid new noted noting r
+    → AnswersOne tally IsRight number block (first ++ second) old new noted noting r
+one_behind tally IsRight number block first second old mid new noted noting q r e v a = record {
   line = a.line;
   right = a.right;
   put = record {
@@ -193,13 +158,13 @@ one_behind tally gives tables number block first second old mid new noted noting
     w : Wrote old mid first {A = Unit {0}} (Ok tt)
     w = subst (λ (x : Result (Unit {0}) Stop). Wrote old mid first (of_output x)) e v
 
-pub one_unwritten : (tally : Bool) (gives : Gives) (tables : List Relation) (number : ℕ) (block : Block) (first second : List ℕ) (old new noted : Sink)
+pub one_unwritten : (tally : Bool) (IsRight : ℕ → A → List ℕ → Type 0) (number : ℕ) (block : A) (first second : List ℕ) (old new noted : Sink)
     (r : Result (Unit {0}) Stop) (y : Stop) → r ≡ Err y → OnErr r (r ≡ Err stop.Output) → Wrote old new first (of_output r)
-    → AnswersOne tally gives tables number block (first ++ second) old new noted noted (Err y)
-one_unwritten tally gives tables number block first second old new noted (Ok x) y e h w = absurd cc
-one_unwritten tally gives tables number block first second old new noted (Err z) y e h w =
+    → AnswersOne tally IsRight number block (first ++ second) old new noted noted (Err y)
+one_unwritten tally IsRight number block first second old new noted (Ok x) y e h w = absurd cc
+one_unwritten tally IsRight number block first second old new noted (Err z) y e h w =
     let is : stop.Output ≡ y = cc in
-    subst (λ (s : Stop). AnswersOne tally gives tables number block (first ++ second) old new noted noted (Err s)) is (record {
+    subst (λ (s : Stop). AnswersOne tally IsRight number block (first ++ second) old new noted noted (Err s)) is (record {
       line = None;
       right = tt;
       put = put_refused (first ++ second) None old new noted

@@ -2,6 +2,7 @@ pub mod Settings
 pub mod Text
 pub mod Summary
 pub mod Tally
+pub mod Lines
 pub mod Seen
 pub mod SoFar
 pub mod Wrote

@@ -46,15 +46,3 @@ pub record IsTally (gives : ℕ → Value → Value → Truth) (tables : List Re
   pub recorded : IsRecorded gives block tables combos log looked hops
   pub answered : IsPermutation (map (rows_of_combo block) combos) (answer gives block tables)
   pub is : line ≡ line_of_counts number (length block.aliases) log hops (length looked)
-
--- the same where lines are asked for, and else nothing
-abbrev pub IsLine : Bool → (ℕ → Value → Value → Truth) → List Relation → ℕ → Block → List ℕ → Type 0
-IsLine true gives tables number block line = IsTally gives tables number block line
-IsLine false gives tables number block line = line ≡ []
-
--- the lines of blocks in order, one behind another, the first of them of the statement with this number
-unfoldable pub AreLines : Bool → (ℕ → Value → Value → Truth) → List Relation → ℕ → List Block → List ℕ → Type 0
-AreLines tally gives tables number [] lines = lines ≡ []
-AreLines tally gives tables number (block ∷ more) lines =
-    (line : List ℕ) × (rest : List ℕ) × IsLine tally gives tables number block line
-    × AreLines tally gives tables (number + 1) more rest × (lines ≡ line ++ rest)

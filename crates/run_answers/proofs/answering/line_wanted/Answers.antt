@@ -10,6 +10,6 @@ returns-in-Ok-clause-right c = λ gives tables h.
     let on : c.args.tally ≡ true = search rules in
     let is : string_bytes c.in-Ok.line ≡ tell.line_of_counts c.args.number (length c.args.block.now.aliases) c.args.answered.now.built.items
     c.args.answered.now.most_hops (length c.args.answered.now.looked.items) = search rules in
-    subst (λ (t : Bool). IsLineFor t gives tables c.args.number c.args.block.now (Some (string_bytes c.in-Ok.line))) (sym on)
+    subst (λ (t : Bool). IsLineFor t (tell.IsTally gives tables) c.args.number c.args.block.now (Some (string_bytes c.in-Ok.line))) (sym on)
     (line_right gives tables c.args.number c.args.block.now c.args.answered.now.combos.items c.args.answered.now.built.items c.args.answered.now.built.items
     c.args.answered.now.looked.items c.args.answered.now.most_hops (string_bytes c.in-Ok.line) h refl is)

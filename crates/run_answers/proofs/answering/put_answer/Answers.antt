@@ -1,3 +1,4 @@
+use Rattle.run_answers.specs.Tally.{IsTally}
 use Rattle.run_answers.proofs.AnswerLemmas.{block_text-some}
 use Rattle.run_answers.proofs.TallyLemmas.{one_found, one_unfound}
 use Rattle.run_answers.proofs.answering.put_answer.Goals as goal
@@ -9,5 +10,5 @@ returns-in-Ok g c =
 
 pub returns-in-Err : goal.returns-in-Err
 returns-in-Err g c =
-    one_unfound c.args.settings.now.tally g.P.Predicates.gives c.args.tables.now c.args.number c.args.block.now _ _ _
+    one_unfound c.args.settings.now.tally (IsTally g.P.Predicates.gives c.args.tables.now) c.args.number c.args.block.now _ _ _
     (block_text-some g.P.Predicates.gives c.args.tables.now c.args.block.now)

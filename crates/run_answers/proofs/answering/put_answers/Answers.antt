@@ -4,7 +4,9 @@ use Rattle.std.proofs.lemmas.List.Elements.{All-head, All-tail}
 use Rattle.sq_expr.specs.Fits.{IsFit}
 use Rattle.sq_expr.specs.Reach.{IsReachable}
 use Rattle.sq_expr.specs.declared.block.Block.{Block}
-use Rattle.run_answers.proofs.ProgressLemmas.{answers_none, answers_all, answers_first, answers_through}
+use Rattle.run_answers.specs.Tally.{IsTally}
+use Rattle.run_answers.proofs.ProgressLemmas.{answers_through}
+use Rattle.run_answers.proofs.TextLemmas.{answers_none, answers_all, answers_first}
 use Rattle.run_answers.proofs.answering.put_answers.Goals as goal
 
 pub returns-in_default : goal.returns-in_default
@@ -30,7 +32,7 @@ put_more-requires-clause-fit g c κs within =
 
 pub returns-in_err-put_answer : goal.returns-in_err-put_answer
 returns-in_err-put_answer g c =
-    answers_through c.args.settings.now.tally g.P.Predicates.gives c.args.tables.now 1 c.args.blocks.now _ _ _ _ _ c.from_residual.result c.in_err-put_answer.field-0.0
+    answers_through c.args.settings.now.tally (IsTally g.P.Predicates.gives c.args.tables.now) 1 c.args.blocks.now _ _ _ _ _ c.from_residual.result c.in_err-put_answer.field-0.0
     c.from_residual.ensures.1
     (answers_first c.args.settings.now.tally g.P.Predicates.gives c.args.tables.now c.args.blocks.now c.in-Some.first.now c.in-Some.more.now _ _ _ _ c.put_answer.result
     c.in_err-put_answer.field-0.0 c.in-Some.ensures.cases.0 c.in_err-put_answer.was c.put_answer.ensures)

@@ -1,0 +1,42 @@
+//! The world of a run: a clause sees of it what it shows.
+
+use outside::{Folder, Sink};
+use std::marker::Model;
+
+/// The output, for answers, and the notes, for lines of counts and refusals.
+#[derive(Drop)]
+pub struct Outputs<O: Sink, N: Sink> {
+    pub out: O,
+    pub notes: N,
+}
+
+impl<O: Sink, N: Sink> Model for Outputs<O, N> {
+    ghost use Rattle.run_base.specs.Seen.{sink_seen};
+    ghost use Rattle.run_base.specs.Seen as seen;
+
+    ghost Value = { seen.Outputs };
+
+    ghost view = { λ a. record {
+        out = sink_seen (O.written a.out) (O.faults a.out);
+        notes = sink_seen (N.written a.notes) (N.faults a.notes);
+    } };
+}
+
+/// The folder that the script and the tables are loaded from, and the outputs.
+#[derive(Drop)]
+pub struct World<F: Folder, O: Sink, N: Sink> {
+    pub folder: F,
+    pub outputs: Outputs<O, N>,
+}
+
+impl<F: Folder, O: Sink, N: Sink> Model for World<F, O, N> {
+    ghost use Rattle.run_base.specs.Seen.{folder_seen};
+    ghost use Rattle.run_base.specs.Seen as seen;
+
+    ghost Value = { seen.World };
+
+    ghost view = { λ a. record {
+        folder = folder_seen (F.holds a.folder) (F.faults a.folder);
+        outputs = a.outputs;
+    } };
+}
