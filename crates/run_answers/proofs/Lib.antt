@@ -1,5 +1,6 @@
 pub mod ApartLemmas
 pub mod AnswerLemmas
+pub mod ItemLemmas
 pub mod LineLemmas
 pub mod TallyLemmas
 pub mod ProgressLemmas

@@ -3,7 +3,6 @@ pub mod Text
 pub mod Summary
 pub mod Tally
 pub mod Lines
-pub mod Seen
 pub mod SoFar
 pub mod Wrote
 pub mod Answering

@@ -2,7 +2,7 @@
 use Rattle.std.specs.Prelude.{◌≡◌, ◌≢◌, ℕ, ◌+◌, List, [], ◌++◌, take, Option}
 use Rattle.outside.specs.Faults.{RoseOrFull}
 use Rattle.outside.specs.Told.{Adds}
-use Rattle.run_answers.specs.Seen.{Sink}
+use Rattle.run_base.specs.Seen.{Sink}
 
 -- a text begins with another
 abbrev pub IsFront : List ℕ → List ℕ → Type 0
