@@ -27,3 +27,6 @@ pub record Outputs : Type 0 where
 pub record World : Type 0 where
   pub folder : Folder
   pub outputs : Outputs
+
+abbrev pub world_seen : Option (List File) → ℕ → Outputs → World
+world_seen holds faults outputs = record { folder = folder_seen holds faults; outputs = outputs }

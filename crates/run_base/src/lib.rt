@@ -3,7 +3,7 @@
 #![tactic(auto)]
 
 mod bound;
-mod world;
+mod outputs;
 
 pub use bound::Bound;
-pub use world::{Outputs, World};
+pub use outputs::Outputs;
