@@ -1,5 +1,5 @@
--- What a run must answer: the outcome of words over files is the statements that are answered, each with its tables, and
--- the first refusal, where there is one.
+-- What a run must answer: the outcome of words over files is the statements that are answered, each with its tables,
+-- and the first refusal, where there is one.
 use Rattle.std.specs.Prelude.{◌≡◌, ◌≢◌, ◌⊎◌, ℕ, List, [], Option, None, Some, unwrap_or, Result, Ok, Err}
 use Rattle.std.specs.Option.{option_map_or}
 use Rattle.sq_value.specs.declared.value.Value.{Value}

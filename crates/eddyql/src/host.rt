@@ -11,6 +11,17 @@ pub struct Host<'h, G, R> {
     pub gate: &'h G,
 }
 
+// A derived one would ask that the gate and the runtime can be let go.
+impl<'h, G, R> Drop for Host<'h, G, R> {
+    fn drop(self) {
+        let Self {
+            rt: _,
+            alloc: _,
+            gate: _,
+        } = self;
+    }
+}
+
 impl<'h, G, R> Host<'h, G, R> {
     /// What runs statements over these predicates, as these settings say.
     pub fn engine<P>(&self, functions: &'h P, settings: &'h Settings) -> Engine<'h, P, G, R>

@@ -24,7 +24,7 @@ use Rattle.run_answers.specs.Answering.{AnswersOne, PutBoth, IsLineFor, Lined, O
 use Rattle.run_answers.specs.Wrote.{Wrote}
 use Rattle.run_base.specs.Items.{Item}
 use Rattle.run_base.specs.Seen.{Sink, Outputs}
-use Rattle.run_answers.specs.Text.{item_text, rows_of}
+use Rattle.run_answers.specs.Text.{item_text, answer_rows}
 use Rattle.run_answers.specs.Tally.{IsTally, line_of_counts}
 use Rattle.run_answers.specs.declared.stopping.Stop.{Stop}
 use Rattle.run_answers.specs.declared.stopping.Stop.TheVariants as stop
@@ -125,7 +125,7 @@ one_put tally IsRight number block text other line old new r e right h =
 
 -- the same of the rows of the answer
 pub one_found : (tally : Bool) (gives : Gives) (number : ℕ) (item : Item) (rows : List (List ℕ)) (line : Option (List ℕ))
-    (old new : Outputs) (r : Result (Unit {0}) Stop) → rows ≡ rows_of gives item → IsLineFor tally (IsTally gives) number item line
+    (old new : Outputs) (r : Result (Unit {0}) Stop) → rows ≡ answer_rows gives item → IsLineFor tally (IsTally gives) number item line
     → PutBoth (answer_text item.bound.block item.tables rows) line old new r
     → AnswersOne tally (IsTally gives) number item (item_text gives item) old new r
 one_found tally gives number item rows line old new r e right h =

@@ -4,7 +4,7 @@ use Rattle.std.specs.Fmt.{decimal}
 use Rattle.sq_value.specs.declared.value.Value.{Value}
 use Rattle.sq_value.specs.declared.value.Truth.{Truth}
 use Rattle.run_base.specs.Items.{Item}
-use Rattle.run_answers.specs.Text.{rows_of}
+use Rattle.run_answers.specs.Text.{answer_rows}
 
 -- the record of the query with this number, whose answer has so many rows
 abbrev pub record_of : ℕ → ℕ → List ℕ
@@ -12,7 +12,7 @@ record_of number rows = codes "q" ++ decimal number ++ codes "," ++ decimal rows
 
 -- the record of a statement, as the query with this number
 abbrev pub count_text : (ℕ → Value → Value → Truth) → ℕ → Item → List ℕ
-count_text gives number item = record_of number (length (rows_of gives item))
+count_text gives number item = record_of number (length (answer_rows gives item))
 
 -- the records of statements in order, the first of them of the query with this number
 unfoldable pub count_texts : (ℕ → Value → Value → Truth) → ℕ → List Item → List ℕ

@@ -11,7 +11,7 @@ use Rattle.eddy_meaning.specs.Keys.{Mark}
 use Rattle.eddy_runs.specs.Recorded.{IsRecorded}
 use Rattle.result_sink.specs.Ready.{rows_of_combo}
 use Rattle.run_base.specs.Items.{Item}
-use Rattle.run_answers.specs.Text.{rows_of}
+use Rattle.run_answers.specs.Text.{answer_rows}
 
 -- the number of rows of an alias that a log builds
 abbrev pub built_of : List Built → ℕ → ℕ
@@ -42,5 +42,5 @@ pub record IsTally (gives : ℕ → Value → Value → Truth) (number : ℕ) (i
   pub looked : List Mark
   pub hops : ℕ
   pub recorded : IsRecorded gives item.bound.block item.tables combos log looked hops
-  pub answered : IsPermutation (map (rows_of_combo item.bound.block) combos) (rows_of gives item)
+  pub answered : IsPermutation (map (rows_of_combo item.bound.block) combos) (answer_rows gives item)
   pub is : line ≡ line_of_counts number (length item.bound.block.aliases) log hops (length looked)

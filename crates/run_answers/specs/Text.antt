@@ -7,12 +7,12 @@ use Rattle.bag_meaning.specs.Answer.{answer, answer_text}
 use Rattle.run_base.specs.Items.{Item}
 
 -- the rows of a statement's answer, each as the rows of its aliases
-abbrev pub rows_of : (ℕ → Value → Value → Truth) → Item → List (List ℕ)
-rows_of gives item = answer gives item.bound.block item.tables
+abbrev pub answer_rows : (ℕ → Value → Value → Truth) → Item → List (List ℕ)
+answer_rows gives item = answer gives item.bound.block item.tables
 
 -- the text of a statement's answer
 abbrev pub item_text : (ℕ → Value → Value → Truth) → Item → List ℕ
-item_text gives item = answer_text item.bound.block item.tables (rows_of gives item)
+item_text gives item = answer_text item.bound.block item.tables (answer_rows gives item)
 
 -- the text of an answer behind others, with one empty line before it
 abbrev pub behind_line : (ℕ → Value → Value → Truth) → Item → List ℕ

@@ -12,3 +12,16 @@ pub struct Engine<'e, P, G, R> {
     pub functions: &'e P,
     pub gate: &'e G,
 }
+
+// A derived one would ask that the predicates, the gate and the runtime can be let go.
+impl<'e, P, G, R> Drop for Engine<'e, P, G, R> {
+    fn drop(self) {
+        let Self {
+            rt: _,
+            alloc: _,
+            settings: _,
+            functions: _,
+            gate: _,
+        } = self;
+    }
+}

@@ -17,7 +17,7 @@ impl<O: Sink, N: Sink> Model for Outputs<O, N> {
     ghost Value = { seen.Outputs };
 
     ghost view = { λ a. record {
-        out = sink_seen (O.written a.out) (O.faults a.out);
-        notes = sink_seen (N.written a.notes) (N.faults a.notes);
+      out = sink_seen (O.written a.out) (O.faults a.out);
+      notes = sink_seen (N.written a.notes) (N.faults a.notes);
     } };
 }

@@ -104,15 +104,15 @@ fn writes<G: Gate, R: Threads + Wait + Sync>(
     let mut folder = folder_of(alloc, script.as_bytes())?;
     let out = MemorySink::with_room(alloc, 99)?;
     let notes = MemorySink::with_room(alloc, 99)?;
-    let host = Host {
-        rt,
-        alloc,
-        gate,
-    };
+    let host = Host { rt, alloc, gate };
     let mut outputs = Outputs { out, notes };
     let status = run(&host, &NoPredicates, &words, &mut folder, &mut outputs);
     let written = bytes_of(alloc, written)?;
-    Ok(status == Status::Done && outputs.out.written() == written.as_slice() && outputs.notes.written().is_empty())
+    Ok(
+        status == Status::Done
+            && outputs.out.written() == written.as_slice()
+            && outputs.notes.written().is_empty(),
+    )
 }
 
 // A gate that counts turns of modules.
@@ -275,7 +275,11 @@ fn writes_of_numbers<R: Threads + Wait + Sync>(
     };
     let mut outputs = Outputs { out, notes };
     let status = run(&host, &NoPredicates, &words, &mut folder, &mut outputs);
-    Ok(status == Status::Done && outputs.out.written() == written.as_bytes() && outputs.notes.written().is_empty())
+    Ok(
+        status == Status::Done
+            && outputs.out.written() == written.as_bytes()
+            && outputs.notes.written().is_empty(),
+    )
 }
 
 // A join of three by a sum, of which tuples lie in the pool, writes the same by any number of workers.
