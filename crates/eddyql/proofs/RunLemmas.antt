@@ -232,6 +232,15 @@ finished_cut p words a old new is h l = record {
     never : ◌≡◌ {A = Option Request} None (Some a) → ⊥
     never f = cc
 
+-- the world whose notes are exchanged for those of one that shows the same else
+abbrev world_of : Folder → Sink → Sink → World
+world_of folder out notes = record { folder = folder; outputs = record { out = out; notes = notes } }
+
+same_world : (mid new : World) → new.folder ≡ mid.folder → new.outputs.out ≡ mid.outputs.out → with_notes mid new.outputs.notes ≡ new
+same_world mid new e f =
+    subst (λ (x : Folder). world_of x mid.outputs.out new.outputs.notes ≡ new) e
+    (subst (λ (x : Sink). world_of new.folder x new.outputs.notes ≡ new) f refl)
+
 -- the same by an equal end, and of an equal world
 pub finished_by : (p : Predicates) (words : List (List ℕ)) (a : Request) (old mid new : World) (e : End) (s ended : Status)
     (tables : List TableWord) → e ≡ end.By s → asked words ≡ Some a → EndedBy p words old mid e
@@ -244,14 +253,6 @@ finished_by p words a old mid new e s ended tables f is h l same place out n =
     (finished_noted p words a old mid new.outputs.notes s ended is (subst (λ (x : End). EndedBy p words old mid x) f h)
     (subst (λ (x : End). NotedLines p words old.folder.holds old.outputs mid.outputs x) f l)
     (subst (λ (ts : List TableWord). NotesOf (names_of ts) mid.outputs.notes new.outputs.notes s ended) same n))
-  where
-    same_world : (mid new : World) → new.folder ≡ mid.folder → new.outputs.out ≡ mid.outputs.out → with_notes mid new.outputs.notes ≡ new
-    same_world mid new e f =
-        subst (λ (x : Folder). world_of x mid.outputs.out new.outputs.notes ≡ new) e
-        (subst (λ (x : Sink). world_of new.folder x new.outputs.notes ≡ new) f refl)
-      where
-        world_of : Folder → Sink → Sink → World
-        world_of folder out notes = record { folder = folder; outputs = record { out = out; notes = notes } }
 
 pub finished_by_notes : (p : Predicates) (words : List (List ℕ)) (a : Request) (old new : World) (e : End)
     → e ≡ end.ByNotes → asked words ≡ Some a → EndedBy p words old new e → NotedLines p words old.folder.holds old.outputs new.outputs e

@@ -1,6 +1,5 @@
 //! What a run is handed.
 
-use run_answers::{Engine, Settings};
 use std::alloc::Global;
 
 /// What a run is handed: the runtime that starts threads, the allocator, and the gate that several
@@ -19,21 +18,5 @@ impl<'h, G, R> Drop for Host<'h, G, R> {
             alloc: _,
             gate: _,
         } = self;
-    }
-}
-
-impl<'h, G, R> Host<'h, G, R> {
-    /// What runs statements over these predicates, as these settings say.
-    pub fn engine<P>(&self, functions: &'h P, settings: &'h Settings) -> Engine<'h, P, G, R>
-        ensures functions { result.functions ≡ functions.entry }
-        ensures settings { result.settings ≡ settings.entry }
-    {
-        Engine {
-            rt: self.rt,
-            alloc: self.alloc,
-            settings,
-            functions,
-            gate: self.gate,
-        }
     }
 }

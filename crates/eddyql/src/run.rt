@@ -110,7 +110,13 @@ fn run_query<F: Folder, O: Sink, N: Sink, P: Predicates + Sync, G: Gate, R: Thre
 {
     match plan_for(host.alloc, request, folder, functions) {
         Ok(plan) => {
-            let engine = host.engine(functions, &request.settings);
+            let engine = Engine {
+                rt: host.rt,
+                alloc: host.alloc,
+                settings: &request.settings,
+                functions,
+                gate: host.gate,
+            };
             run_plan(&engine, &request.task, &plan, outputs)
         }
         Err(refusal) => End::By(refusal),
