@@ -1,4 +1,4 @@
-use Rattle.std.proofs.Common.{◌≡◌, ℕ, List, refl, sym, ◌∙◌, ap, subst, ◌⊎◌, inl, inr}
+use Rattle.std.proofs.Common.{◌≡◌, ℕ, List, refl, sym, ◌∙◌, ap, subst, ◌⊎◌, inl, inr, arith}
 use Rattle.run_plan.specs.Prepared.{Predicates}
 use Rattle.run_base.specs.Seen.{World}
 use Rattle.run_plan.specs.Stage.{stage_of, code_of}
@@ -17,7 +17,7 @@ code_either s t (inr e) = inr (ap (λ (u : Status). code_of (stage_of u)) e)
 -- the one status whose code is 0
 done_of : (s : Status) → code_of (stage_of s) ≡ 0 → s ≡ status.Done
 done_of status.Done e = refl
-done_of _ e = absurd cc
+done_of _ e = absurd (omega (arith, e))
 
 -- a run that ended, of equal words
 same_finished : (p : Predicates) (ws vs : List (List ℕ)) (old new : World) (s : Status) → ws ≡ vs → Finished p ws old new s → Finished p vs old new s
