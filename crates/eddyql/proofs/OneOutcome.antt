@@ -9,6 +9,7 @@ use Rattle.sq_parse.proofs.OneReading.{one_reading, same_reading}
 use Rattle.sq_parse.specs.declared.tree.Script.{Script}
 use Rattle.sq_parse.specs.declared.tree.Statement.{Statement}
 use Rattle.sq_expr.specs.declared.block.Block.{Block}
+use Rattle.run_base.specs.declared.bound.Bound.{Bound}
 use Rattle.catalogue.specs.Named.{NamedTables}
 use Rattle.sq_bind.specs.Answer as binding
 use Rattle.sq_bind.specs.Given.{over}
@@ -25,13 +26,13 @@ use Rattle.run_plan.specs.DemoScript.{demo_script}
 use Rattle.run_plan.specs.Accesses.{accesses_read}
 use Rattle.run_plan.specs.Faults.{script_status, bind_status}
 use Rattle.run_plan.specs.Files.{file_read, catalogue_read}
-use Rattle.run_plan.specs.Prepared.{IsSpelled, IsScript, IsBlock, AreBlocks, IsBoundPlan, IsPlan, IsDemoPlan, Predicates}
+use Rattle.run_plan.specs.Prepared.{IsSpelled, IsScript, IsBoundTo, AreBoundTo, IsBoundPlan, IsPlan, IsDemoPlan, Predicates}
 use Rattle.run_plan.specs.Steps.{Behind, AndThen, ComesTo, or_refuse, or_fault}
 use Rattle.run_plan.specs.declared.status.FileOf.TheVariants as file
 use Rattle.run_plan.specs.declared.status.Status.{Status}
 use Rattle.run_plan.specs.declared.status.Status.TheVariants as status
 use Rattle.eddyql.specs.Asked.{asked}
-use Rattle.eddyql.specs.Outcome.{IsTaskPlan, IsRequested, IsOutcome, OneOutcome, task_text}
+use Rattle.eddyql.specs.Outcome.{Due, IsTaskPlan, IsRequested, IsPlanned, IsOutcome, OneOutcome, due_by}
 
 -- what a step comes to is one thing
 abbrev pub IsOne : {A : Type 0} → (Result A Status → Type 0) → Type 0
@@ -52,19 +53,23 @@ one_then first more one each x y h k =
 one_spelled : (text : List ℕ) → IsOne (IsSpelled text)
 one_spelled text x y h k = h.2 ∙ ap (or_fault script_status) (same_reading text h.0 k.0 h.1 k.1) ∙ sym k.2
 
-one_block : (scope : Scope) (number : ℕ) (s : Statement) → IsOne (IsBlock scope number s)
-one_block scope number s (Ok b) (Ok c) h k = ap Ok (h.is ∙ sym k.is)
-one_block scope number s (Ok b) (Err r) h k = absurd (no_fault scope s b k.0 h k.1)
-one_block scope number s (Err r) (Ok c) h k = absurd (no_fault scope s c h.0 k h.1)
+-- a bound statement is told by its block
+same_bound : (b c : Bound) → b.block ≡ c.block → b ≡ c
+same_bound b c e = ap (λ (x : Block). let bound : Bound = record { block = x } in bound) e
+
+one_block : (scope : Scope) (number : ℕ) (s : Statement) → IsOne (IsBoundTo scope number s)
+one_block scope number s (Ok b) (Ok c) h k = ap Ok (same_bound b c (h.is ∙ sym k.is))
+one_block scope number s (Ok b) (Err r) h k = absurd (no_fault scope s b.block k.0 h k.1)
+one_block scope number s (Err r) (Ok c) h k = absurd (no_fault scope s c.block h.0 k h.1)
 one_block scope number s (Err r) (Err t) h k = ap Err (h.2 ∙ ap (bind_status number) (one_fault scope s h.0 k.0 h.1 k.1) ∙ sym k.2)
 
-one_blocks : (scope : Scope) (number : ℕ) (ss : List Statement) → IsOne (AreBlocks scope number ss)
-unfolding AreBlocks
+one_blocks : (scope : Scope) (number : ℕ) (ss : List Statement) → IsOne (AreBoundTo scope number ss)
+unfolding AreBoundTo
 one_blocks scope number [] x y h k = h ∙ sym k
 one_blocks scope number (s ∷ more) x y h k =
-    one_then (IsBlock scope number s) (λ block. AndThen (AreBlocks scope (number + 1) more) (λ blocks. ComesTo (Ok (block ∷ blocks))))
+    one_then (IsBoundTo scope number s) (λ block. AndThen (AreBoundTo scope (number + 1) more) (λ blocks. ComesTo (Ok (block ∷ blocks))))
     (one_block scope number s)
-    (λ block. one_then (AreBlocks scope (number + 1) more) (λ blocks. ComesTo (Ok (block ∷ blocks))) (one_blocks scope (number + 1) more)
+    (λ block. one_then (AreBoundTo scope (number + 1) more) (λ blocks. ComesTo (Ok (block ∷ blocks))) (one_blocks scope (number + 1) more)
     (λ blocks. one_given (Ok (block ∷ blocks)))) x y h k
 
 -- ---- all of a run
@@ -75,12 +80,12 @@ one_script files name = one_then (ComesTo (file_read file.Script files name)) Is
 one_bound_plan : (p : Predicates) (asks : List AccessWord) (script : Script) (catalogue : NamedTables) → IsOne (IsBoundPlan p asks script catalogue)
 one_bound_plan p asks script catalogue =
     one_then (ComesTo (accesses_read catalogue.tables asks))
-    (λ accesses. AndThen (AreBlocks (over catalogue accesses p.calls) 1 script.statements)
-    (λ blocks. ComesTo (Ok record { blocks = blocks; catalogue = catalogue })))
+    (λ accesses. AndThen (AreBoundTo (over catalogue accesses p.calls) 1 script.statements)
+    (λ blocks. ComesTo (Ok record { statements = blocks; catalogue = catalogue })))
     (one_given (accesses_read catalogue.tables asks))
-    (λ accesses. one_then (AreBlocks (over catalogue accesses p.calls) 1 script.statements)
-    (λ blocks. ComesTo (Ok record { blocks = blocks; catalogue = catalogue }))
-    (one_blocks (over catalogue accesses p.calls) 1 script.statements) (λ blocks. one_given (Ok record { blocks = blocks; catalogue = catalogue })))
+    (λ accesses. one_then (AreBoundTo (over catalogue accesses p.calls) 1 script.statements)
+    (λ blocks. ComesTo (Ok record { statements = blocks; catalogue = catalogue }))
+    (one_blocks (over catalogue accesses p.calls) 1 script.statements) (λ blocks. one_given (Ok record { statements = blocks; catalogue = catalogue })))
 
 one_plan : (p : Predicates) (q : Query) (files : List File) → IsOne (IsPlan p q files)
 unfolding IsPlan
@@ -100,13 +105,13 @@ one_requested : (p : Predicates) (t : Task) (seed : ℕ) (files : List File) →
 one_requested p (task.Query q) seed files = one_plan p q files
 one_requested p (task.Demo rows) seed files = one_demo p rows seed
 
-pub same_outcome : (p : Predicates) (words : List (List ℕ)) (files : List File) → IsOne (IsOutcome p words files)
-same_outcome p words files x y h k =
-    one_then (ComesTo (or_refuse status.Usage (asked words)))
-    (λ a. AndThen (IsRequested p a files) (λ plan. ComesTo (Ok (task_text a.task p.gives plan.catalogue.tables plan.blocks))))
-    (one_given (or_refuse status.Usage (asked words)))
-    (λ a. one_then (IsRequested p a files) (λ plan. ComesTo (Ok (task_text a.task p.gives plan.catalogue.tables plan.blocks))) (one_requested p a.task a.settings.seed files)
-    (λ plan. one_given (Ok (task_text a.task p.gives plan.catalogue.tables plan.blocks)))) x y h k
+one_planned : (p : Predicates) (words : List (List ℕ)) (files : List File) → IsOne (IsPlanned p words files)
+one_planned p words files =
+    one_then (ComesTo (or_refuse status.Usage (asked words))) (λ a. IsRequested p a files) (one_given (or_refuse status.Usage (asked words)))
+    (λ a. one_requested p a.task a.settings.seed files)
+
+pub same_outcome : (p : Predicates) (words : List (List ℕ)) (files : List File) (x y : Due) → IsOutcome p words files x → IsOutcome p words files y → x ≡ y
+same_outcome p words files x y h k = h.2 ∙ ap due_by (one_planned p words files h.0 k.0 h.1 k.1) ∙ sym k.2
 
 -- ---- there is one
 
@@ -132,25 +137,25 @@ some_script : (files : List File) (name : List ℕ) → Comes (IsScript files na
 some_script files name =
     some_then (ComesTo (file_read file.Script files name)) IsSpelled (some_given (file_read file.Script files name)) (λ text h. some_spelled text)
 
-some_block : (scope : Scope) (number : ℕ) (s : Statement) → 0 < length s.sources → Comes (IsBlock scope number s)
+some_block : (scope : Scope) (number : ℕ) (s : Statement) → 0 < length s.sources → Comes (IsBoundTo scope number s)
 some_block scope number s some = by (some_answer scope s some)
   where
-    by : ((block : Block) × binding.IsBound scope s block) ⊎ ((x : BindFault) × binding.IsBindFault scope s x) → Comes (IsBlock scope number s)
-    by (inl h) = (Ok h.0, h.1)
+    by : ((block : Block) × binding.IsBound scope s block) ⊎ ((x : BindFault) × binding.IsBindFault scope s x) → Comes (IsBoundTo scope number s)
+    by (inl h) = (Ok (record { block = h.0 }), h.1)
     by (inr h) = (Err (bind_status number h.0), (h.0, h.1, refl))
 
 -- a statement has sources
 abbrev pub HasSource : Statement → Type 0
 HasSource s = 0 < length s.sources
 
-some_blocks : (scope : Scope) (number : ℕ) (ss : List Statement) → All HasSource ss → Comes (AreBlocks scope number ss)
-unfolding AreBlocks
+some_blocks : (scope : Scope) (number : ℕ) (ss : List Statement) → All HasSource ss → Comes (AreBoundTo scope number ss)
+unfolding AreBoundTo
 some_blocks scope number [] all = (Ok [], refl)
 some_blocks scope number (s ∷ more) all =
     let rest = some_blocks scope (number + 1) more (All-tail HasSource s more all) in
-    some_then (IsBlock scope number s) (λ block. AndThen (AreBlocks scope (number + 1) more) (λ blocks. ComesTo (Ok (block ∷ blocks))))
+    some_then (IsBoundTo scope number s) (λ block. AndThen (AreBoundTo scope (number + 1) more) (λ blocks. ComesTo (Ok (block ∷ blocks))))
     (some_block scope number s (All-head HasSource s more all))
-    (λ block h. some_then (AreBlocks scope (number + 1) more) (λ blocks. ComesTo (Ok (block ∷ blocks))) rest (λ blocks k. some_given (Ok (block ∷ blocks))))
+    (λ block h. some_then (AreBoundTo scope (number + 1) more) (λ blocks. ComesTo (Ok (block ∷ blocks))) rest (λ blocks k. some_given (Ok (block ∷ blocks))))
 
 -- the statements of a script that was read have sources
 sources_read : (text : List ℕ) (script : Script) (read : Result Script ParseFault) → ReadsAs text read → ◌≡◌ {A = Result Script Status} (Ok script) (or_fault script_status read)
@@ -172,12 +177,12 @@ sources_of files name script h = by h.0 h.2
 some_bound_plan : (p : Predicates) (asks : List AccessWord) (script : Script) (catalogue : NamedTables) → All HasSource script.statements → Comes (IsBoundPlan p asks script catalogue)
 some_bound_plan p asks script catalogue all =
     some_then (ComesTo (accesses_read catalogue.tables asks))
-    (λ accesses. AndThen (AreBlocks (over catalogue accesses p.calls) 1 script.statements)
-    (λ blocks. ComesTo (Ok record { blocks = blocks; catalogue = catalogue })))
+    (λ accesses. AndThen (AreBoundTo (over catalogue accesses p.calls) 1 script.statements)
+    (λ blocks. ComesTo (Ok record { statements = blocks; catalogue = catalogue })))
     (some_given (accesses_read catalogue.tables asks))
-    (λ accesses h. some_then (AreBlocks (over catalogue accesses p.calls) 1 script.statements)
-    (λ blocks. ComesTo (Ok record { blocks = blocks; catalogue = catalogue }))
-    (some_blocks (over catalogue accesses p.calls) 1 script.statements all) (λ blocks k. some_given (Ok record { blocks = blocks; catalogue = catalogue })))
+    (λ accesses h. some_then (AreBoundTo (over catalogue accesses p.calls) 1 script.statements)
+    (λ blocks. ComesTo (Ok record { statements = blocks; catalogue = catalogue }))
+    (some_blocks (over catalogue accesses p.calls) 1 script.statements all) (λ blocks k. some_given (Ok record { statements = blocks; catalogue = catalogue })))
 
 some_plan : (p : Predicates) (q : Query) (files : List File) → Comes (IsPlan p q files)
 unfolding IsPlan
@@ -197,13 +202,12 @@ some_requested : (p : Predicates) (t : Task) (seed : ℕ) (files : List File) �
 some_requested p (task.Query q) seed files = some_plan p q files
 some_requested p (task.Demo rows) seed files = some_demo p rows seed
 
-some_outcome : (p : Predicates) (words : List (List ℕ)) (files : List File) → Comes (IsOutcome p words files)
+some_outcome : (p : Predicates) (words : List (List ℕ)) (files : List File) → (due : Due) × IsOutcome p words files due
 some_outcome p words files =
-    some_then (ComesTo (or_refuse status.Usage (asked words)))
-    (λ a. AndThen (IsRequested p a files) (λ plan. ComesTo (Ok (task_text a.task p.gives plan.catalogue.tables plan.blocks))))
-    (some_given (or_refuse status.Usage (asked words)))
-    (λ a h. some_then (IsRequested p a files) (λ plan. ComesTo (Ok (task_text a.task p.gives plan.catalogue.tables plan.blocks))) (some_requested p a.task a.settings.seed files)
-    (λ plan k. some_given (Ok (task_text a.task p.gives plan.catalogue.tables plan.blocks))))
+    let planned : Comes (IsPlanned p words files) =
+    some_then (ComesTo (or_refuse status.Usage (asked words))) (λ a. IsRequested p a files) (some_given (or_refuse status.Usage (asked words)))
+    (λ a h. some_requested p a.task a.settings.seed files) in
+    (due_by planned.0, (planned.0, planned.1, refl))
 
 pub one_outcome : OneOutcome
 one_outcome p words files =

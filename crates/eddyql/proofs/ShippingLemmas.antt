@@ -1,36 +1,35 @@
 -- For the proofs: predicates with the signatures of the shipped ones are the shipped ones.
-use Rattle.std.proofs.Common.{◌≡◌, ℕ, List, Result, sym, subst}
+use Rattle.std.proofs.Common.{◌≡◌, ℕ, List, sym, subst}
 use Rattle.fn_registry.specs.Meaning.{gives_of}
 use Rattle.fn_registry.specs.Registry.{number_named, kinds_numbered}
 use Rattle.fn_registry.specs.ShippedSignatures.{shipped_signatures}
 use Rattle.fn_registry.specs.declared.signature.Signature.{Signature}
 use Rattle.outside.specs.Files.{File}
+use Rattle.run_base.specs.Seen.{World}
 use Rattle.run_plan.specs.Prepared.{predicates}
-use Rattle.run_plan.specs.Seen.{Folder}
 use Rattle.run_plan.specs.declared.status.Status.{Status}
-use Rattle.run_answers.specs.Seen.{Sink}
 use Rattle.eddyql.specs.Ending.{Finished}
-use Rattle.eddyql.specs.Outcome.{IsOutcome}
+use Rattle.eddyql.specs.Outcome.{Due, IsOutcome}
 use Rattle.eddyql.specs.Shipped.{shipped_predicates}
 
 -- an outcome under the one is an outcome under the other
-pub shipped_outcome : (ss : List Signature) (words : List (List ℕ)) (files : List File) (due : Result (List ℕ) Status)
+pub shipped_outcome : (ss : List Signature) (words : List (List ℕ)) (files : List File) (due : Due)
     → ss ≡ shipped_signatures
     → IsOutcome (predicates (number_named ss) (kinds_numbered ss) (gives_of 0)) words files due → IsOutcome shipped_predicates words files due
 shipped_outcome ss words files due same outcome =
     subst (λ (l : List Signature). IsOutcome (predicates (number_named l) (kinds_numbered l) (gives_of 0)) words files due) same outcome
 
-pub outcome_shipped : (ss : List Signature) (words : List (List ℕ)) (files : List File) (due : Result (List ℕ) Status)
+pub outcome_shipped : (ss : List Signature) (words : List (List ℕ)) (files : List File) (due : Due)
     → ss ≡ shipped_signatures
     → IsOutcome shipped_predicates words files due → IsOutcome (predicates (number_named ss) (kinds_numbered ss) (gives_of 0)) words files due
 outcome_shipped ss words files due same outcome =
     subst (λ (l : List Signature). IsOutcome (predicates (number_named l) (kinds_numbered l) (gives_of 0)) words files due) (sym same) outcome
 
 -- a run that ended under the one ended so under the other
-pub shipped_finished : (ss : List Signature) (words : List (List ℕ)) (old new : Folder) (before now noted noting : Sink) (s : Status)
+pub shipped_finished : (ss : List Signature) (words : List (List ℕ)) (old new : World) (s : Status)
     → ss ≡ shipped_signatures
-    → Finished (predicates (number_named ss) (kinds_numbered ss) (gives_of 0)) words old new before now noted noting s
-    → Finished shipped_predicates words old new before now noted noting s
-shipped_finished ss words old new before now noted noting s same finished =
-    subst (λ (l : List Signature). Finished (predicates (number_named l) (kinds_numbered l) (gives_of 0)) words old new before now noted noting s)
+    → Finished (predicates (number_named ss) (kinds_numbered ss) (gives_of 0)) words old new s
+    → Finished shipped_predicates words old new s
+shipped_finished ss words old new s same finished =
+    subst (λ (l : List Signature). Finished (predicates (number_named l) (kinds_numbered l) (gives_of 0)) words old new s)
     same finished

@@ -1,23 +1,20 @@
 -- What was put of the text of a task.
 use Rattle.std.proofs.Common.{◌≡◌, ℕ, Bool, List, Result, sym, subst}
-use Rattle.sq_value.specs.Relation.{Relation}
 use Rattle.sq_value.specs.declared.value.Value.{Value}
 use Rattle.sq_value.specs.declared.value.Truth.{Truth}
-use Rattle.sq_expr.specs.declared.block.Block.{Block}
 use Rattle.command_line.specs.declared.command.Task.{Task}
+use Rattle.run_base.specs.Items.{Item}
+use Rattle.run_base.specs.Seen.{Outputs}
 use Rattle.run_answers.specs.Answering.{Answers}
-use Rattle.run_answers.specs.Seen.{Sink}
+use Rattle.run_answers.specs.Tally.{IsTally}
 use Rattle.run_answers.specs.declared.stopping.Stop.{Stop}
 use Rattle.eddyql.specs.Outcome.{task_text}
 
--- what predicates give
-abbrev Gives : Type 0
-Gives = ℕ → Value → Value → Truth
-
--- the texts of what the words ask for
-pub answers_task : (tally : Bool) (gives : Gives) (tables : List Relation) (blocks : List Block) (asked other : Task)
-    (old new noted noting : Sink) (r : Result (Unit {0}) Stop) → asked ≡ other
-    → Answers tally gives tables 1 blocks (task_text other gives tables) old new noted noting r
-    → Answers tally gives tables 1 blocks (task_text asked gives tables) old new noted noting r
-answers_task tally gives tables blocks asked other old new noted noting r e a =
-    subst (λ (t : Task). Answers tally gives tables 1 blocks (task_text t gives tables) old new noted noting r) (sym e) a
+-- the texts of what the words ask for, of equal tasks and of equal statements
+pub answers_task : (tally : Bool) (gives : ℕ → Value → Value → Truth) (items same : List Item) (asked other : Task)
+    (old new : Outputs) (r : Result (Unit {0}) Stop) → asked ≡ other → items ≡ same
+    → Answers tally (IsTally gives) 1 items (task_text other gives) old new r
+    → Answers tally (IsTally gives) 1 same (task_text asked gives) old new r
+answers_task tally gives items same asked other old new r e f a =
+    subst (λ (l : List Item). Answers tally (IsTally gives) 1 l (task_text asked gives) old new r) f
+    (subst (λ (t : Task). Answers tally (IsTally gives) 1 items (task_text t gives) old new r) (sym e) a)

@@ -1,43 +1,46 @@
 -- The lines of counts of a run, and how far it came: which statements are finished, by what was written of their text.
-use Rattle.std.specs.Prelude.{◌≡◌, ◌⊎◌, ℕ, ◌+◌, true, List, [], ◌∷◌, ◌++◌, length, Option, Some, Ok}
+use Rattle.std.specs.Prelude.{◌≡◌, ◌⊎◌, ℕ, ◌+◌, true, List, [], ◌∷◌, ◌++◌, length, Option, Some}
 use Rattle.outside.specs.Faults.{RoseOrFull}
 use Rattle.outside.specs.Files.{File}
 use Rattle.outside.specs.Told.{Adds}
-use Rattle.sq_expr.specs.declared.block.Block.{Block}
+use Rattle.run_base.specs.Items.{Item}
+use Rattle.run_base.specs.Seen.{Sink, Outputs}
 use Rattle.run_plan.specs.Prepared.{Predicates}
-use Rattle.run_plan.specs.declared.plan.Plan.{Plan}
-use Rattle.run_answers.specs.Seen.{Sink}
-use Rattle.run_answers.specs.Tally.{IsTally, AreLines}
+use Rattle.run_answers.specs.Lines.{AreLines}
+use Rattle.run_answers.specs.Tally.{IsTally}
 use Rattle.run_answers.specs.SoFar.{TookSoFar, AddsFrontBehind}
 use Rattle.eddyql.specs.Asked.{asked, is_tallied}
-use Rattle.eddyql.specs.Outcome.{IsRequested, task_text}
+use Rattle.eddyql.specs.Outcome.{Due, IsOutcome, IsTextDue, task_text}
 use Rattle.eddyql.specs.declared.asking.Request.{Request}
 
--- what is run: what the words ask for, and its plan over the folder's files, where it tells them
+-- these statements are what is due, and a text is
+abbrev pub AreDue : Predicates → List (List ℕ) → List File → List Item → Type 0
+AreDue p words files items = (due : Due) × IsOutcome p words files due × IsTextDue due × (due.items ≡ items)
+
+-- what is run: what the words ask for, and the statements that are due over the folder's files, where it tells them
 pub record RunOf (p : Predicates) (words : List (List ℕ)) (holds : Option (List File)) : Type 0 where
   pub request : Request
   pub in_form : asked words ≡ Some request
-  pub plan : Plan
-  pub planned : (files : List File) → holds ≡ Some files → IsRequested p request files (Ok plan)
+  pub items : List Item
+  pub due : (files : List File) → holds ≡ Some files → AreDue p words files items
 
 -- the text of its first statements
 abbrev pub text_in : {p : Predicates} {words : List (List ℕ)} {holds : Option (List File)} → RunOf p words holds
-    → List Block → List ℕ
-text_in {p = p} r = λ (blocks : List Block). task_text r.request.task p.gives r.plan.catalogue.tables blocks
+    → List Item → List ℕ
+text_in {p = p} r = task_text r.request.task p.gives
 
 -- the lines of its first statements, which are none where none are asked for
 abbrev pub AreLinesIn : {p : Predicates} {words : List (List ℕ)} {holds : Option (List File)} → RunOf p words holds
-    → List Block → List ℕ → Type 0
-AreLinesIn {p = p} r blocks lines =
-    AreLines r.request.settings.tally p.gives r.plan.catalogue.tables 1 blocks lines
+    → List Item → List ℕ → Type 0
+AreLinesIn {p = p} r items lines = AreLines r.request.settings.tally (IsTally p.gives) 1 items lines
 
 -- a run came so far: the first of its statements are finished, by what the output took, and these are their lines
 pub record Progress (p : Predicates) (words : List (List ℕ)) (holds : Option (List File)) (before now : Sink)
     (lines : List ℕ) : Type 0 where
   pub of : RunOf p words holds
-  pub finished : List Block
-  pub left : List Block
-  pub split : of.plan.blocks ≡ finished ++ left
+  pub finished : List Item
+  pub left : List Item
+  pub split : of.items ≡ finished ++ left
   pub are : AreLinesIn of finished lines
   pub took : TookSoFar (text_in of) finished left before now
 
@@ -52,21 +55,21 @@ SomeLines p words holds before now lines =
 
 -- the notes failed at a line of counts: the output took the text of its statement and of those before, and nothing
 -- else; and the notes took the lines of those before, and a front of this line
-pub record IsCutOff (p : Predicates) (words : List (List ℕ)) (holds : Option (List File))
-    (before now noted noting : Sink) : Type 0 where
+pub record IsCutOff (p : Predicates) (words : List (List ℕ)) (holds : Option (List File)) (old new : Outputs)
+    : Type 0 where
   pub of : RunOf p words holds
-  pub finished : List Block
-  pub next : Block
-  pub left : List Block
-  pub split : of.plan.blocks ≡ finished ++ next ∷ left
-  pub text : Adds before.written now.written (text_in of (finished ++ next ∷ []))
+  pub finished : List Item
+  pub next : Item
+  pub left : List Item
+  pub split : of.items ≡ finished ++ next ∷ left
+  pub text : Adds old.out.written new.out.written (text_in of (finished ++ next ∷ []))
   pub lines : List ℕ
   pub are : AreLinesIn of finished lines
   pub line : List ℕ
-  pub right : IsTally p.gives of.plan.catalogue.tables (1 + length finished) next line
+  pub right : IsTally p.gives (1 + length finished) next line
   pub wanted : of.request.settings.tally ≡ true
-  pub front : AddsFrontBehind noted.written noting.written lines line
-  pub rose : RoseOrFull noted.faults noting.faults
+  pub front : AddsFrontBehind old.notes.written new.notes.written lines line
+  pub rose : RoseOrFull old.notes.faults new.notes.faults
 
 -- a sink has lines more, and behind them a line, or a front of it where its count rose
 abbrev pub IsNotedBehind : Sink → Sink → List ℕ → List ℕ → Type 0
@@ -74,6 +77,8 @@ IsNotedBehind before now lines line =
     Adds before.written now.written (lines ++ line)
     ⊎ (RoseOrFull before.faults now.faults × AddsFrontBehind before.written now.written lines line)
 
--- a fault of the output, or, where the words ask for lines of counts, of the notes
-abbrev pub MayFail : List (List ℕ) → Type 0 → Type 0 → Type 0
-MayFail words out notes = out ⊎ ((is_tallied words ≡ true) × notes)
+-- what may end a run as Write: a fault of the output, or, where the words ask for lines of counts, of the notes
+abbrev pub MayFail : List (List ℕ) → Outputs → Outputs → Type 0
+MayFail words old new =
+    RoseOrFull old.out.faults new.out.faults
+    ⊎ ((is_tallied words ≡ true) × RoseOrFull old.notes.faults new.notes.faults)

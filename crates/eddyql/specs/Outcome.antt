@@ -1,13 +1,14 @@
--- What a run must answer: the outcome of words over files is the text of the answers, or the first refusal.
-use Rattle.std.specs.Prelude.{◌≡◌, ℕ, List, Some, Result, Ok}
-use Rattle.sq_value.specs.Relation.{Relation}
+-- What a run must answer: the outcome of words over files is the statements that are answered, each with its tables,
+-- and the first refusal, where there is one.
+use Rattle.std.specs.Prelude.{◌≡◌, ◌≢◌, ◌⊎◌, ℕ, List, [], Option, None, Some, unwrap_or, Result, Ok, Err}
+use Rattle.std.specs.Option.{option_map_or}
 use Rattle.sq_value.specs.declared.value.Value.{Value}
 use Rattle.sq_value.specs.declared.value.Truth.{Truth}
-use Rattle.sq_expr.specs.declared.block.Block.{Block}
 use Rattle.outside.specs.Files.{File}
 use Rattle.command_line.specs.declared.command.Query.{Query}
 use Rattle.command_line.specs.declared.command.Task.{Task}
 use Rattle.command_line.specs.declared.command.Task.TheVariants as task
+use Rattle.run_base.specs.Items.{Item, items_over}
 use Rattle.run_plan.specs.Steps.{AndThen, ComesTo, or_refuse}
 use Rattle.run_plan.specs.declared.plan.Plan.{Plan}
 use Rattle.run_plan.specs.declared.status.Status.{Status}
@@ -19,6 +20,15 @@ use Rattle.run_answers.specs.Text.{text_of}
 use Rattle.eddyql.specs.Asked.{asked}
 use Rattle.eddyql.specs.declared.asking.Request.{Request}
 
+-- what is due: the statements that are answered, in order, and what refuses behind them, if anything does
+pub record Due : Type 0 where
+  pub items : List Item
+  pub refusal : Option Status
+
+-- the status of an outcome
+abbrev pub status_of : Due → Status
+status_of due = unwrap_or due.refusal status.Done
+
 -- the plan of a script over tables, or of the demo with this seed
 abbrev pub IsTaskPlan : Predicates → Task → ℕ → List File → Result Plan Status → Type 0
 IsTaskPlan p (task.Query q) seed files due = IsPlan p q files due
@@ -28,17 +38,46 @@ IsTaskPlan p (task.Demo rows) seed files due = IsDemoPlan p rows seed due
 abbrev pub IsRequested : Predicates → Request → List File → Result Plan Status → Type 0
 IsRequested p a files due = IsTaskPlan p a.task a.settings.seed files due
 
--- the text of what is run: the answers, or the demo's summary
-abbrev pub task_text : Task → (ℕ → Value → Value → Truth) → List Relation → List Block → List ℕ
-task_text (task.Query q) gives tables blocks = text_of gives tables blocks
-task_text (task.Demo rows) gives tables blocks = summary gives tables blocks
+-- the plan of words, or the first refusal before any statement is answered
+abbrev pub IsPlanned : Predicates → List (List ℕ) → List File → Result Plan Status → Type 0
+IsPlanned p words files due =
+    AndThen (ComesTo (or_refuse status.Usage (asked words))) (λ a. IsRequested p a files) due
 
--- the outcome of words over files: the text that is due, or the first refusal
-abbrev pub IsOutcome : Predicates → List (List ℕ) → List File → Result (List ℕ) Status → Type 0
-IsOutcome p words files due =
-    AndThen (ComesTo (or_refuse status.Usage (asked words)))
-    (λ a. AndThen (IsRequested p a files)
-    (λ plan. ComesTo (Ok (task_text a.task p.gives plan.catalogue.tables plan.blocks)))) due
+-- the statements of a plan, each over the plan's tables
+abbrev pub items_of : Plan → List Item
+items_of plan = items_over plan.catalogue.tables plan.statements
+
+-- what is due by a plan: all of its statements; or no statement, and the refusal
+abbrev pub due_by : Result Plan Status → Due
+due_by (Ok plan) = record { items = items_of plan; refusal = None }
+due_by (Err refusal) = record { items = []; refusal = Some refusal }
+
+-- the outcome of words over files
+abbrev pub IsOutcome : Predicates → List (List ℕ) → List File → Due → Type 0
+IsOutcome p words files due = (plan : Result Plan Status) × IsPlanned p words files plan × (due ≡ due_by plan)
+
+-- the text of what is run: the answers, or the demo's summary
+abbrev pub task_text : Task → (ℕ → Value → Value → Truth) → List Item → List ℕ
+task_text (task.Query q) gives items = text_of gives items
+task_text (task.Demo rows) gives items = summary gives items
+
+-- the text before a refusal: the answers before it. A summary tells of all queries or isn't begun
+abbrev pub text_before : Task → (ℕ → Value → Value → Truth) → List Item → List ℕ
+text_before (task.Query q) gives items = text_of gives items
+text_before (task.Demo rows) gives items = []
+
+abbrev pub text_till : Option Status → Task → (ℕ → Value → Value → Truth) → List Item → List ℕ
+text_till None task gives items = task_text task gives items
+text_till (Some refusal) task gives items = text_before task gives items
+
+-- the text that is due, for what the words ask for
+abbrev pub text_due : Predicates → List (List ℕ) → Due → List ℕ
+text_due p words due =
+    option_map_or (λ (a : Request). text_till due.refusal a.task p.gives due.items) (asked words) []
+
+-- a text is due, which may be empty: a statement is answered, or nothing refuses
+abbrev pub IsTextDue : Due → Type 0
+IsTextDue due = (due.items ≢ []) ⊎ (due.refusal ≡ None)
 
 -- the demo reaches no file
 abbrev pub ReachedFor : Task → List File → FileOf → Type 0
@@ -54,5 +93,5 @@ pub record ReachedBy (words : List (List ℕ)) (files : List File) (f : FileOf) 
 -- the law that words over files have one outcome
 abbrev pub OneOutcome : Type 0
 OneOutcome = (p : Predicates) (words : List (List ℕ)) (files : List File)
-    → (due : Result (List ℕ) Status) × IsOutcome p words files due
-    × ((other : Result (List ℕ) Status) → IsOutcome p words files other → other ≡ due)
+    → (due : Due) × IsOutcome p words files due
+    × ((other : Due) → IsOutcome p words files other → other ≡ due)

@@ -5,14 +5,17 @@
 ghost use Rattle.std.specs.Prelude.{◌≡◌, ◌⊎◌};
 
 mod asking;
+mod host;
 mod planning;
 mod program;
 mod run;
 mod shipping;
 
 use eddy_worker::NoGate;
+use host::Host;
 use outside::{RealFolder, RealSink};
 use program::{all_words, code_for};
+use run_base::Outputs;
 use run_notes::put_note;
 use run_plan::Status;
 use shipping::program_as_shipped;
@@ -39,17 +42,17 @@ fn main(rt: HostRuntime) -> ExitCode {
     let mut notes = RealSink::new(rt.stderr());
     match given_words(&rt) {
         Ok(words) => {
+            let host = Host {
+                rt: &rt,
+                alloc: rt.alloc(),
+                gate: &NoGate,
+            };
             let mut folder = RealFolder::new(&rt);
-            let mut out = RealSink::new(rt.stdout());
-            program_as_shipped(
-                &rt,
-                rt.alloc(),
-                &words,
-                &mut folder,
-                &mut out,
-                &mut notes,
-                &NoGate,
-            )
+            let mut outputs = Outputs {
+                out: RealSink::new(rt.stdout()),
+                notes,
+            };
+            program_as_shipped(&host, &words, &mut folder, &mut outputs)
         }
         Err(error) => {
             let status = status_without_words(&error);

@@ -2,11 +2,10 @@
 
 ghost use Rattle.std.specs.Prelude.{Ok, Err, IfOk, IfErr, All};
 ghost use Rattle.command_line.specs.Within.{IsTask};
-ghost use Rattle.sq_expr.specs.Fits.{IsFit};
-ghost use Rattle.sq_expr.specs.Reach.{IsReachable};
+ghost use Rattle.run_base.specs.Runnable.{IsRunnable};
+ghost use Rattle.run_base.specs.Seen.{folder_seen};
 ghost use Rattle.run_plan.specs.Doing.{Went, Stopped};
 ghost use Rattle.run_plan.specs.Prepared.{predicates};
-ghost use Rattle.run_plan.specs.Seen.{folder_seen};
 ghost use Rattle.eddyql.specs.Outcome as spec;
 
 use crate::asking::Request;
@@ -32,8 +31,8 @@ pub fn plan_for<F: Folder, P: Predicates>(
         Went (folder_seen (F.holds folder.old) (F.faults folder.old))
         (folder_seen (F.holds folder.new) (F.faults folder.new))
         (λ files. spec.IsRequested p request.now files (Ok plan))) }
-    ensures fit { IfOk result (λ plan. All (IsFit (P.kinds_of functions.now) plan.catalogue.tables) plan.blocks) }
-    ensures reachable { IfOk result (λ plan. All IsReachable plan.blocks) }
+    ensures run { IfOk result (λ plan.
+        All (IsRunnable (P.kinds_of functions.now) plan.catalogue.tables) plan.statements) }
     ensures stopped { let p = predicates (P.number_of functions.now) (P.kinds_of functions.now) P.gives in
         IfErr result (λ s.
         Stopped (folder_seen (F.holds folder.old) (F.faults folder.old))

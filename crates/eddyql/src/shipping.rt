@@ -1,6 +1,6 @@
 //! The program as it is shipped: with `divides`, `same_sign` and `near10` as its predicates.
 
-ghost use Rattle.std.specs.Prelude.{◌≡◌, ◌⊎◌, ◌++◌, ◌∷◌, [], ◌<◌, false, length, ℕ, List, Some, None, Result, Ok, IfOk, OnOk, OnErr, map, drop};
+ghost use Rattle.std.specs.Prelude.{◌≡◌, ◌⊎◌, ◌++◌, ◌∷◌, [], ◌<◌, false, length, List, Some, None, IfOk, OnOk, OnErr, map, drop};
 ghost use Rattle.std.specs.Process.{exit_status};
 ghost use Rattle.std.specs.String.{string_bytes};
 ghost use Rattle.outside.specs.Files.{File};
@@ -8,24 +8,24 @@ ghost use Rattle.outside.specs.Faults.{RoseOrFull};
 ghost use Rattle.outside.specs.Told.{Adds};
 ghost use Rattle.fn_registry.specs.Registry.{is_taken};
 ghost use Rattle.fn_registry.specs.Signatures.{signatures};
-ghost use Rattle.run_plan.specs.Seen.{folder_seen};
+ghost use Rattle.run_base.specs.Seen.{world_seen};
 ghost use Rattle.run_plan.specs.Stage.{stage_of, code_of};
 ghost use Rattle.run_plan.specs.declared.status.Status.{Status as Ending};
-ghost use Rattle.run_answers.specs.Seen.{sink_seen};
 ghost use Rattle.eddyql.specs.Asked.{asked};
 ghost use Rattle.eddyql.specs.Ending.{Finished};
 ghost use Rattle.eddyql.specs.Lines.{MayFail};
-ghost use Rattle.eddyql.specs.Outcome.{IsOutcome};
-ghost use Rattle.eddyql.specs.Run.{status_of};
+ghost use Rattle.eddyql.specs.Outcome.{Due, IsOutcome, status_of, text_due};
 ghost use Rattle.eddyql.specs.Shipped.{shipped_predicates};
 
+use crate::host::Host;
 use crate::program::{code_for, program};
+use crate::run::note;
 use eddy_worker::Gate;
 use fn_registry::{
     AddFault, Functions, Registered, SHIPPED, ShippedFunctions, Stored, divides, near10, same_sign,
 };
 use outside::{Folder, Sink};
-use run_notes::put_note;
+use run_base::Outputs;
 use run_plan::Status;
 use sq_value::{ColType, Kinds, Memory, SqText, Value};
 use std::alloc::Global;
@@ -55,80 +55,75 @@ fn put<const M: u32>(functions: &mut Functions<M>, item: Registered<M>) -> Resul
 // Registers the predicates, and runs the words over them.
 #[tactic(auto, unfolding(fn_registry::specs::Meaning::gives_of))]
 fn run_shipped<F: Folder, O: Sink, N: Sink, G: Gate, R: Threads + Wait + Sync>(
-    rt: &R,
-    alloc: Global,
+    host: &Host<'_, G, R>,
     words: &[String],
     folder: &mut F,
-    out: &mut O,
-    notes: &mut N,
-    gate: &G,
+    outputs: &mut Outputs<O, N>,
 ) -> Result<ExitCode, Memory>
     ensures usage { asked (drop 1 (map string_bytes words.now)) ≡ None
         → IfOk result (λ code. (exit_status code ≡ 2) ⊎ (exit_status code ≡ 9)) }
     ensures done { IfOk result (λ code. exit_status code ≡ 0 → (files : List File) → F.holds folder.old ≡ Some files
-        → (text : List ℕ) × IsOutcome shipped_predicates (drop 1 (map string_bytes words.now)) files (Ok text)
-        × Adds (O.written out.old) (O.written out.new) text) }
+        → (due : Due) × IsOutcome shipped_predicates (drop 1 (map string_bytes words.now)) files due
+        × (due.refusal ≡ None) × Adds outputs.old.out.written outputs.new.out.written
+        (text_due shipped_predicates (drop 1 (map string_bytes words.now)) due)) }
     ensures complete { IfOk result (λ code. (files : List File) → F.holds folder.old ≡ Some files
         → ¬ (RoseOrFull (F.faults folder.old) (F.faults folder.new))
-        → ¬ (MayFail (drop 1 (map string_bytes words.now)) (RoseOrFull (O.faults out.old) (O.faults out.new))
-        (RoseOrFull (N.faults notes.old) (N.faults notes.new)))
-        → (due : Result (List ℕ) Ending) → IsOutcome shipped_predicates (drop 1 (map string_bytes words.now)) files due
+        → ¬ (MayFail (drop 1 (map string_bytes words.now)) outputs.old outputs.new)
+        → (due : Due) → IsOutcome shipped_predicates (drop 1 (map string_bytes words.now)) files due
         → (exit_status code ≡ code_of (stage_of (status_of due))) ⊎ (exit_status code ≡ 9)) }
     ensures finished { IfOk result (λ code. (s : Ending) × (exit_status code ≡ code_of (stage_of s))
         × Finished shipped_predicates (drop 1 (map string_bytes words.now))
-        (folder_seen (F.holds folder.old) (F.faults folder.old))
-        (folder_seen (F.holds folder.new) (F.faults folder.new)) (sink_seen (O.written out.old) (O.faults out.old))
-        (sink_seen (O.written out.new) (O.faults out.new)) (sink_seen (N.written notes.old) (N.faults notes.old))
-        (sink_seen (N.written notes.new) (N.faults notes.new)) s) }
-    ensures untouched { OnErr result ((folder.new ≡ folder.old) × (out.new ≡ out.old) × (notes.new ≡ notes.old)) }
+        (world_seen (F.holds folder.old) (F.faults folder.old) outputs.old)
+        (world_seen (F.holds folder.new) (F.faults folder.new) outputs.new) s) }
+    ensures untouched { OnErr result ((folder.new ≡ folder.old) × (outputs.new ≡ outputs.old)) }
 {
-    let mut functions: Functions<SHIPPED> = Functions::new(alloc);
-    let answer: Stored = Box::new(alloc, |x: &Value, y: &Value| divides(x, y))?;
-    let name = SqText::of(alloc, "divides")?;
+    let mut functions: Functions<SHIPPED> = Functions::new(host.alloc);
+    let answer: Stored = Box::new(host.alloc, |x: &Value, y: &Value| divides(x, y))?;
+    let name = SqText::of(host.alloc, "divides")?;
     put(&mut functions, Registered::new(name, 0, INTEGERS, answer))?;
-    let answer: Stored = Box::new(alloc, |x: &Value, y: &Value| same_sign(x, y))?;
-    let name = SqText::of(alloc, "same_sign")?;
+    let answer: Stored = Box::new(host.alloc, |x: &Value, y: &Value| same_sign(x, y))?;
+    let name = SqText::of(host.alloc, "same_sign")?;
     put(&mut functions, Registered::new(name, 1, INTEGERS, answer))?;
-    let answer: Stored = Box::new(alloc, |x: &Value, y: &Value| near10(x, y))?;
-    let name = SqText::of(alloc, "near10")?;
+    let answer: Stored = Box::new(host.alloc, |x: &Value, y: &Value| near10(x, y))?;
+    let name = SqText::of(host.alloc, "near10")?;
     put(&mut functions, Registered::new(name, 2, INTEGERS, answer))?;
     let functions = ShippedFunctions(functions);
-    Ok(program(rt, alloc, words, folder, out, notes, &functions, gate))
+    Ok(program(host, &functions, words, folder, outputs))
 }
 
 /// Runs the words that the program was started with over the shipped predicates, and answers the
 /// code that it ends with: that of [`program`], or, where there is no memory for the predicates,
 /// that of want of memory, with its note.
 pub fn program_as_shipped<F: Folder, O: Sink, N: Sink, G: Gate, R: Threads + Wait + Sync>(
-    rt: &R,
-    alloc: Global,
+    host: &Host<'_, G, R>,
     words: &[String],
     folder: &mut F,
-    out: &mut O,
-    notes: &mut N,
-    gate: &G,
+    outputs: &mut Outputs<O, N>,
 ) -> ExitCode
     ensures usage { asked (drop 1 (map string_bytes words.now)) ≡ None
         → (exit_status result ≡ 2) ⊎ (exit_status result ≡ 9) }
     ensures done { exit_status result ≡ 0 → (files : List File) → F.holds folder.old ≡ Some files
-        → (text : List ℕ) × IsOutcome shipped_predicates (drop 1 (map string_bytes words.now)) files (Ok text)
-        × Adds (O.written out.old) (O.written out.new) text }
+        → (due : Due) × IsOutcome shipped_predicates (drop 1 (map string_bytes words.now)) files due
+        × (due.refusal ≡ None) × Adds outputs.old.out.written outputs.new.out.written
+        (text_due shipped_predicates (drop 1 (map string_bytes words.now)) due) }
+    ensures refused { (files : List File) → F.holds folder.old ≡ Some files
+        → (due : Due) → IsOutcome shipped_predicates (drop 1 (map string_bytes words.now)) files due
+        → (s : Ending) × (exit_status result ≡ code_of (stage_of s)) × (due.refusal ≡ Some s
+        → Adds outputs.old.out.written outputs.new.out.written
+        (text_due shipped_predicates (drop 1 (map string_bytes words.now)) due)) }
     ensures complete { (files : List File) → F.holds folder.old ≡ Some files
         → ¬ (RoseOrFull (F.faults folder.old) (F.faults folder.new))
-        → ¬ (MayFail (drop 1 (map string_bytes words.now)) (RoseOrFull (O.faults out.old) (O.faults out.new))
-        (RoseOrFull (N.faults notes.old) (N.faults notes.new)))
-        → (due : Result (List ℕ) Ending) → IsOutcome shipped_predicates (drop 1 (map string_bytes words.now)) files due
+        → ¬ (MayFail (drop 1 (map string_bytes words.now)) outputs.old outputs.new)
+        → (due : Due) → IsOutcome shipped_predicates (drop 1 (map string_bytes words.now)) files due
         → (exit_status result ≡ code_of (stage_of (status_of due))) ⊎ (exit_status result ≡ 9) }
     ensures finished { (s : Ending) × (exit_status result ≡ code_of (stage_of s))
         × Finished shipped_predicates (drop 1 (map string_bytes words.now))
-        (folder_seen (F.holds folder.old) (F.faults folder.old))
-        (folder_seen (F.holds folder.new) (F.faults folder.new)) (sink_seen (O.written out.old) (O.faults out.old))
-        (sink_seen (O.written out.new) (O.faults out.new)) (sink_seen (N.written notes.old) (N.faults notes.old))
-        (sink_seen (N.written notes.new) (N.faults notes.new)) s }
+        (world_seen (F.holds folder.old) (F.faults folder.old) outputs.old)
+        (world_seen (F.holds folder.new) (F.faults folder.new) outputs.new) s }
 {
-    match run_shipped(rt, alloc, words, folder, out, notes, gate) {
+    match run_shipped(host, words, folder, outputs) {
         Ok(code) => code,
-        Err(Memory) => code_for(put_note(alloc, &[], Status::Memory, notes)),
+        Err(Memory) => code_for(note(host.alloc, &[], Status::Memory, outputs)),
     }
 }
 

@@ -33,8 +33,9 @@ use Rattle.result_sink.specs.Ready.{IsShown, IsOrdered, Differs, rows_of_combo}
 use Rattle.result_sink.specs.declared.fault.WriteFault.{WriteFault}
 use Rattle.result_sink.specs.declared.fault.WriteFault.TheVariants as write
 use Rattle.run_answers.specs.Wrote.{Wrote}
-use Rattle.run_answers.specs.Text.{block_text}
-use Rattle.run_answers.specs.Seen.{Sink}
+use Rattle.run_base.specs.Items.{Item}
+use Rattle.run_base.specs.Seen.{Sink}
+use Rattle.run_answers.specs.Text.{item_text}
 use Rattle.run_answers.proofs.ApartLemmas.{AreApart, AreApart-from_pairs, AreApart-permutation}
 
 -- ---- the answer
@@ -184,10 +185,10 @@ wrote_front old new first second e w = record {
 pub wrote_text : (old new : Sink) (text other : List ℕ) (r : Result (Unit {0}) WriteFault) → text ≡ other → Wrote old new text r → Wrote old new other r
 wrote_text old new text other r e w = subst (λ (x : List ℕ). Wrote old new x r) e w
 
--- the text of a block is never empty: its heading ends with a line feed
-pub block_text-some : (gives : ℕ → Value → Value → Truth) (tables : List Relation) (block : Block) → block_text gives tables block ≢ []
+-- the text of an answer is never empty: its heading ends with a line feed
+pub item_text-some : (gives : ℕ → Value → Value → Truth) (item : Item) → item_text gives item ≢ []
 unfolding answer_text
-block_text-some gives tables block e = heading (row_text default_writer (heading_fields block)) _ (row_text-some (heading_fields block)) e
+item_text-some gives item e = heading (row_text default_writer (heading_fields item.bound.block)) _ (row_text-some (heading_fields item.bound.block)) e
   where
     heading : (xs ys : List ℕ) → xs ≢ [] → xs ++ ys ≡ [] → ⊥
     heading [] ys n f = n refl

@@ -1,10 +1,8 @@
 -- Serves proofs: what steps have done that put answers to the output and lines of counts to the notes.
 use Rattle.std.specs.Prelude.{◌≡◌, ◌≢◌, ℕ, ◌+◌, Bool, true, false, List, [], ◌∷◌, ◌++◌, length, Option, None, option_map, unwrap_or, Result, Ok, Err, ⊤}
 use Rattle.std.specs.String.{string_bytes}
-use Rattle.sq_value.specs.Relation.{Relation}
 use Rattle.sq_value.specs.declared.value.Value.{Value}
 use Rattle.sq_value.specs.declared.value.Truth.{Truth}
-use Rattle.sq_expr.specs.declared.block.Block.{Block}
 use Rattle.eddy_runs.specs.Complete.{IsBagOf}
 use Rattle.outside.specs.Faults.{NeverFalls, RoseOrFull}
 use Rattle.outside.specs.Told.{Adds}
@@ -13,8 +11,10 @@ use Rattle.result_sink.specs.declared.fault.WriteFault.{WriteFault}
 use Rattle.result_sink.specs.declared.fault.WriteFault.TheVariants as write
 use Rattle.run_answers.specs.Wrote.{Wrote}
 use Rattle.run_answers.specs.SoFar.{TookSoFar, AddsFrontBehind}
-use Rattle.run_answers.specs.Seen.{Sink}
-use Rattle.run_answers.specs.Tally.{IsLine, IsTally, AreLines}
+use Rattle.run_base.specs.Items.{Item}
+use Rattle.run_base.specs.Seen.{Sink, Outputs}
+use Rattle.run_answers.specs.Tally.{IsTally}
+use Rattle.run_answers.specs.Lines.{IsLine, AreLines}
 use Rattle.run_answers.specs.declared.answering.Found.{Found}
 use Rattle.run_answers.specs.declared.stopping.Stop.{Stop}
 use Rattle.run_answers.specs.declared.stopping.Stop.TheVariants as stop
@@ -27,71 +27,71 @@ of_output (Err stop.Notes) = Err write.Memory
 of_output (Err stop.Memory) = Err write.Memory
 
 -- a fault of the notes came at the line of the next statement, whose text was put, behind the lines of those before
-pub record BrokeOff (gives : ℕ → Value → Value → Truth) (tables : List Relation) (number : ℕ)
-    (text : List Block → List ℕ) (finished left : List Block) (lines : List ℕ) (old new noted noting : Sink)
+pub record BrokeOff {A : Type 0} (IsRight : ℕ → A → List ℕ → Type 0) (number : ℕ)
+    (text : List A → List ℕ) (finished left : List A) (lines : List ℕ) (old new : Outputs)
     : Type 0 where
-  pub next : Block
-  pub rest : List Block
+  pub next : A
+  pub rest : List A
   pub is : left ≡ next ∷ rest
-  pub whole : Adds old.written new.written (text (finished ++ next ∷ []))
+  pub whole : Adds old.out.written new.out.written (text (finished ++ next ∷ []))
   pub line : List ℕ
-  pub right : IsTally gives tables (number + length finished) next line
-  pub front : AddsFrontBehind noted.written noting.written lines line
-  pub rose : RoseOrFull noted.faults noting.faults
+  pub right : IsRight (number + length finished) next line
+  pub front : AddsFrontBehind old.notes.written new.notes.written lines line
+  pub rose : RoseOrFull old.notes.faults new.notes.faults
 
 -- the lines of finished statements were put, and so much of all texts
-pub record LinesPut (text : List Block → List ℕ) (finished left : List Block) (lines : List ℕ)
-    (old new noted noting : Sink) : Type 0 where
-  pub put : Adds noted.written noting.written lines
-  pub counts : NeverFalls noted.faults noting.faults
-  pub took : TookSoFar text finished left old new
+pub record LinesPut {A : Type 0} (text : List A → List ℕ) (finished left : List A) (lines : List ℕ)
+    (old new : Outputs) : Type 0 where
+  pub put : Adds old.notes.written new.notes.written lines
+  pub counts : NeverFalls old.notes.faults new.notes.faults
+  pub took : TookSoFar text finished left old.out new.out
 
 -- how the statements of a step ended, the first of them finished
-abbrev pub EndsSo : Bool → (ℕ → Value → Value → Truth) → List Relation → ℕ → (List Block → List ℕ) → List Block
-    → List Block → List ℕ → Sink → Sink → Sink → Sink → Result (Unit {0}) Stop → Type 0
-EndsSo tally gives tables number text finished left lines old new noted noting (Ok x) =
-    LinesPut text finished left lines old new noted noting × (left ≡ []) × (noting.faults ≡ noted.faults)
-EndsSo tally gives tables number text finished left lines old new noted noting (Err stop.Notes) =
-    BrokeOff gives tables number text finished left lines old new noted noting × (tally ≡ true)
-EndsSo tally gives tables number text finished left lines old new noted noting (Err stop.Output) =
-    LinesPut text finished left lines old new noted noting
-EndsSo tally gives tables number text finished left lines old new noted noting (Err stop.Memory) =
-    LinesPut text finished left lines old new noted noting
+abbrev pub EndsSo : {A : Type 0} → Bool → (ℕ → A → List ℕ → Type 0) → ℕ → (List A → List ℕ) → List A
+    → List A → List ℕ → Outputs → Outputs → Result (Unit {0}) Stop → Type 0
+EndsSo tally IsRight number text finished left lines old new (Ok x) =
+    LinesPut text finished left lines old new × (left ≡ []) × (new.notes.faults ≡ old.notes.faults)
+EndsSo tally IsRight number text finished left lines old new (Err stop.Notes) =
+    BrokeOff IsRight number text finished left lines old new × (tally ≡ true)
+EndsSo tally IsRight number text finished left lines old new (Err stop.Output) =
+    LinesPut text finished left lines old new
+EndsSo tally IsRight number text finished left lines old new (Err stop.Memory) =
+    LinesPut text finished left lines old new
 
 -- the first of these statements are finished, the first of all with this number, and their lines were put
-pub record Tallied (tally : Bool) (gives : ℕ → Value → Value → Truth) (tables : List Relation) (number : ℕ)
-    (blocks : List Block) (text : List Block → List ℕ) (old new noted noting : Sink) (r : Result (Unit {0}) Stop)
+pub record Tallied {A : Type 0} (tally : Bool) (IsRight : ℕ → A → List ℕ → Type 0) (number : ℕ)
+    (items : List A) (text : List A → List ℕ) (old new : Outputs) (r : Result (Unit {0}) Stop)
     : Type 0 where
-  pub finished : List Block
-  pub left : List Block
-  pub split : blocks ≡ finished ++ left
+  pub finished : List A
+  pub left : List A
+  pub split : items ≡ finished ++ left
   pub lines : List ℕ
-  pub are : AreLines tally gives tables number finished lines
-  pub end' : EndsSo tally gives tables number text finished left lines old new noted noting r
-  pub quiet : tally ≡ false → noting ≡ noted
+  pub are : AreLines tally IsRight number finished lines
+  pub end' : EndsSo tally IsRight number text finished left lines old new r
+  pub quiet : tally ≡ false → new.notes ≡ old.notes
 
--- the text of these blocks was put, or a front of it, and the lines of those that are finished
-pub record Answers (tally : Bool) (gives : ℕ → Value → Value → Truth) (tables : List Relation) (number : ℕ)
-    (blocks : List Block) (text : List Block → List ℕ) (old new noted noting : Sink) (r : Result (Unit {0}) Stop)
+-- the text of these statements was put, or a front of it, and the lines of those that are finished
+pub record Answers {A : Type 0} (tally : Bool) (IsRight : ℕ → A → List ℕ → Type 0) (number : ℕ)
+    (items : List A) (text : List A → List ℕ) (old new : Outputs) (r : Result (Unit {0}) Stop)
     : Type 0 where
-  pub out : Wrote old new (text blocks) (of_output r)
-  pub notes : Tallied tally gives tables number blocks text old new noted noting r
+  pub out : Wrote old.out new.out (text items) (of_output r)
+  pub notes : Tallied tally IsRight number items text old new r
 
 -- the bytes of a line that may be there
 abbrev pub line_bytes : Option (List ℕ) → List ℕ
 line_bytes line = unwrap_or line []
 
 -- a line is right for its statement, and is there only where one is wanted
-pub record IsLineFor (tally : Bool) (gives : ℕ → Value → Value → Truth) (tables : List Relation) (number : ℕ)
-    (block : Block) (line : Option (List ℕ)) : Type 0 where
-  pub right : IsLine tally gives tables number block (line_bytes line)
+pub record IsLineFor {A : Type 0} (tally : Bool) (IsRight : ℕ → A → List ℕ → Type 0) (number : ℕ) (item : A)
+    (line : Option (List ℕ)) : Type 0 where
+  pub right : IsLine tally IsRight number item (line_bytes line)
   pub none : tally ≡ false → line ≡ None
 
--- what was found for a block: its matches in some order, and its line
-pub record IsFound (tally : Bool) (gives : ℕ → Value → Value → Truth) (tables : List Relation) (number : ℕ)
-    (block : Block) (f : Found) : Type 0 where
-  pub bag : IsBagOf gives block tables f.combos.items
-  pub line : IsLineFor tally gives tables number block (option_map string_bytes f.line)
+-- what was found for a statement: its matches in some order, and its line
+pub record IsFound (tally : Bool) (gives : ℕ → Value → Value → Truth) (number : ℕ) (item : Item) (f : Found)
+    : Type 0 where
+  pub bag : IsBagOf gives item.bound.block item.tables f.combos.items
+  pub line : IsLineFor tally (IsTally gives) number item (option_map string_bytes f.line)
 
 -- a line was put, or a front of it, or nothing
 abbrev pub Lined : Option (List ℕ) → Sink → Sink → Result (Unit {0}) Stop → Type 0
@@ -103,12 +103,12 @@ Lined line old new (Err stop.Output) = new ≡ old
 Lined line old new (Err stop.Memory) = new ≡ old
 
 -- a text was put, and then a line: the text is whole where the line failed, and isn't where memory was wanting
-pub record PutBoth (text : List ℕ) (line : Option (List ℕ)) (old new noted noting : Sink)
+pub record PutBoth (text : List ℕ) (line : Option (List ℕ)) (old new : Outputs)
     (r : Result (Unit {0}) Stop) : Type 0 where
-  pub out : Wrote old new text (of_output r)
-  pub whole : r ≡ Err stop.Notes → Adds old.written new.written text
-  pub short : r ≡ Err stop.Memory → AddsPart old.written new.written text
-  pub notes : Lined line noted noting r
+  pub out : Wrote old.out new.out text (of_output r)
+  pub whole : r ≡ Err stop.Notes → Adds old.out.written new.out.written text
+  pub short : r ≡ Err stop.Memory → AddsPart old.out.written new.out.written text
+  pub notes : Lined line old.notes new.notes r
 
 -- what holds where a line was put, or failed
 abbrev pub OnTold : Result (Unit {0}) Stop → Type 0 → Type 0
@@ -117,8 +117,8 @@ OnTold (Err stop.Notes) P = P
 OnTold (Err _) P = ⊤
 
 -- the text of one statement was put, and then its line
-pub record AnswersOne (tally : Bool) (gives : ℕ → Value → Value → Truth) (tables : List Relation) (number : ℕ)
-    (block : Block) (text : List ℕ) (old new noted noting : Sink) (r : Result (Unit {0}) Stop) : Type 0 where
+pub record AnswersOne {A : Type 0} (tally : Bool) (IsRight : ℕ → A → List ℕ → Type 0) (number : ℕ)
+    (item : A) (text : List ℕ) (old new : Outputs) (r : Result (Unit {0}) Stop) : Type 0 where
   pub line : Option (List ℕ)
-  pub right : OnTold r (IsLineFor tally gives tables number block line)
-  pub put : PutBoth text line old new noted noting r
+  pub right : OnTold r (IsLineFor tally IsRight number item line)
+  pub put : PutBoth text line old new r

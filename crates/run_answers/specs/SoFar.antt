@@ -2,8 +2,7 @@
 use Rattle.std.specs.Prelude.{◌≡◌, ◌≢◌, ℕ, ◌+◌, List, [], ◌++◌, take, Option}
 use Rattle.outside.specs.Faults.{RoseOrFull}
 use Rattle.outside.specs.Told.{Adds}
-use Rattle.sq_expr.specs.declared.block.Block.{Block}
-use Rattle.run_answers.specs.Seen.{Sink}
+use Rattle.run_base.specs.Seen.{Sink}
 
 -- a text begins with another
 abbrev pub IsFront : List ℕ → List ℕ → Type 0
@@ -11,7 +10,7 @@ IsFront front text = (rest : List ℕ) × (text ≡ front ++ rest)
 
 -- a sink took the whole text of finished statements, and of those that are left a front of the next one's; where its
 -- count of faults didn't rise, that one's text isn't whole
-pub record TookSoFar (text : List Block → List ℕ) (finished left : List Block) (before now : Sink) : Type 0 where
+pub record TookSoFar {A : Type 0} (text : List A → List ℕ) (finished left : List A) (before now : Sink) : Type 0 where
   pub added : List ℕ
   pub adds : Adds before.written now.written added
   pub whole : finished ≢ [] → IsFront (text finished) added

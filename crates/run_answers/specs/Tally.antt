@@ -1,18 +1,17 @@
 -- Lines of counts: what each tells, and when it is right for its statement.
-use Rattle.std.specs.Prelude.{◌≡◌, ℕ, ◌+◌, ◌==◌, Bool, true, false, List, [], ◌∷◌, ◌++◌, length, map, codes, if◌then◌else◌}
+use Rattle.std.specs.Prelude.{◌≡◌, ℕ, ◌==◌, List, [], ◌∷◌, ◌++◌, length, map, codes, if◌then◌else◌}
 use Rattle.std.specs.Fmt.{decimal}
 use Rattle.std.specs.List.{count_by, flat_map, range_with_len}
 use Rattle.std.specs.List.Sorted.{IsPermutation}
-use Rattle.sq_value.specs.Relation.{Relation}
 use Rattle.sq_value.specs.declared.value.Value.{Value}
 use Rattle.sq_value.specs.declared.value.Truth.{Truth}
-use Rattle.sq_expr.specs.declared.block.Block.{Block}
-use Rattle.bag_meaning.specs.Answer.{answer}
 use Rattle.bag_meaning.specs.declared.combo.Built.{Built}
 use Rattle.bag_meaning.specs.declared.combo.Combo.{Combo}
 use Rattle.eddy_meaning.specs.Keys.{Mark}
 use Rattle.eddy_runs.specs.Recorded.{IsRecorded}
 use Rattle.result_sink.specs.Ready.{rows_of_combo}
+use Rattle.run_base.specs.Items.{Item}
+use Rattle.run_answers.specs.Text.{answer_rows}
 
 -- the number of rows of an alias that a log builds
 abbrev pub built_of : List Built → ℕ → ℕ
@@ -36,25 +35,12 @@ line_of_counts number aliases log hops looked =
     codes "query " ++ decimal number ++ codes ": built " ++ built_text aliases log ++ codes " hops " ++ decimal hops
     ++ codes " looked " ++ decimal looked ++ 10 ∷ []
 
--- a line tells the counts of a run of a block, whose combinations, put in order, are the answer that is written
-pub record IsTally (gives : ℕ → Value → Value → Truth) (tables : List Relation) (number : ℕ) (block : Block)
-    (line : List ℕ) : Type 0 where
+-- a line tells the counts of a run of a statement, whose combinations, put in order, are the answer that is written
+pub record IsTally (gives : ℕ → Value → Value → Truth) (number : ℕ) (item : Item) (line : List ℕ) : Type 0 where
   pub combos : List Combo
   pub log : List Built
   pub looked : List Mark
   pub hops : ℕ
-  pub recorded : IsRecorded gives block tables combos log looked hops
-  pub answered : IsPermutation (map (rows_of_combo block) combos) (answer gives block tables)
-  pub is : line ≡ line_of_counts number (length block.aliases) log hops (length looked)
-
--- the same where lines are asked for, and else nothing
-abbrev pub IsLine : Bool → (ℕ → Value → Value → Truth) → List Relation → ℕ → Block → List ℕ → Type 0
-IsLine true gives tables number block line = IsTally gives tables number block line
-IsLine false gives tables number block line = line ≡ []
-
--- the lines of blocks in order, one behind another, the first of them of the statement with this number
-unfoldable pub AreLines : Bool → (ℕ → Value → Value → Truth) → List Relation → ℕ → List Block → List ℕ → Type 0
-AreLines tally gives tables number [] lines = lines ≡ []
-AreLines tally gives tables number (block ∷ more) lines =
-    (line : List ℕ) × (rest : List ℕ) × IsLine tally gives tables number block line
-    × AreLines tally gives tables (number + 1) more rest × (lines ≡ line ++ rest)
+  pub recorded : IsRecorded gives item.bound.block item.tables combos log looked hops
+  pub answered : IsPermutation (map (rows_of_combo item.bound.block) combos) (answer_rows gives item)
+  pub is : line ≡ line_of_counts number (length item.bound.block.aliases) log hops (length looked)

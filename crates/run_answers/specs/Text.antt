@@ -1,21 +1,24 @@
--- The text of the answers of blocks, one behind another.
+-- The text of the answers of statements, one behind another.
 use Rattle.std.specs.Prelude.{ℕ, ◌+◌, List, [], ◌∷◌, ◌++◌}
 use Rattle.std.specs.List.{flat_map}
-use Rattle.sq_value.specs.Relation.{Relation}
 use Rattle.sq_value.specs.declared.value.Value.{Value}
 use Rattle.sq_value.specs.declared.value.Truth.{Truth}
-use Rattle.sq_expr.specs.declared.block.Block.{Block}
 use Rattle.bag_meaning.specs.Answer.{answer, answer_text}
+use Rattle.run_base.specs.Items.{Item}
 
--- the text of a block's answer
-abbrev pub block_text : (ℕ → Value → Value → Truth) → List Relation → Block → List ℕ
-block_text gives tables block = answer_text block tables (answer gives block tables)
+-- the rows of a statement's answer, each as the rows of its aliases
+abbrev pub answer_rows : (ℕ → Value → Value → Truth) → Item → List (List ℕ)
+answer_rows gives item = answer gives item.bound.block item.tables
+
+-- the text of a statement's answer
+abbrev pub item_text : (ℕ → Value → Value → Truth) → Item → List ℕ
+item_text gives item = answer_text item.bound.block item.tables (answer_rows gives item)
 
 -- the text of an answer behind others, with one empty line before it
-abbrev pub behind_line : (ℕ → Value → Value → Truth) → List Relation → Block → List ℕ
-behind_line gives tables block = 10 ∷ block_text gives tables block
+abbrev pub behind_line : (ℕ → Value → Value → Truth) → Item → List ℕ
+behind_line gives item = 10 ∷ item_text gives item
 
 -- the texts of all answers, in order, with one empty line between two
-unfoldable pub text_of : (ℕ → Value → Value → Truth) → List Relation → List Block → List ℕ
-text_of gives tables [] = []
-text_of gives tables (block ∷ more) = block_text gives tables block ++ flat_map (behind_line gives tables) more
+unfoldable pub text_of : (ℕ → Value → Value → Truth) → List Item → List ℕ
+text_of gives [] = []
+text_of gives (item ∷ more) = item_text gives item ++ flat_map (behind_line gives) more

@@ -4,7 +4,7 @@ use Rattle.outside.specs.Faults.{NeverFalls, RoseOrFull}
 use Rattle.outside.specs.Told.{Adds, AddsFront}
 use Rattle.result_sink.specs.declared.fault.WriteFault.{WriteFault}
 use Rattle.result_sink.specs.declared.fault.WriteFault.TheVariants as write
-use Rattle.run_answers.specs.Seen.{Sink}
+use Rattle.run_base.specs.Seen.{Sink}
 
 -- a text was written, or a front of it
 pub record Wrote (old new : Sink) (text : List ℕ) {A : Type 0} (r : Result A WriteFault) : Type 0 where

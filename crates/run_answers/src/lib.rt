@@ -1,9 +1,10 @@
-//! The answers of a run: runs the blocks of a plan, and puts their answers, or the demo's summary, and
+//! The answers of a run: runs the statements of a plan, and puts their answers, or the demo's summary, and
 //! their lines of counts.
 #![tactic(auto)]
 
 mod answering;
 mod counting;
+mod engine;
 mod finding;
 mod settings;
 mod stopping;
@@ -11,5 +12,6 @@ mod tallying;
 
 pub use answering::put_answers;
 pub use counting::put_summary;
+pub use engine::Engine;
 pub use settings::Settings;
 pub use stopping::Stop;

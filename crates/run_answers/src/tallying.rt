@@ -1,10 +1,11 @@
 //! The line of counts of a statement.
 
-ghost use Rattle.std.specs.Prelude.{◌≡◌, IfOk};
+ghost use Rattle.std.specs.Prelude.{◌≡◌, IfOk, length};
 ghost use Rattle.std.specs.String.{string_bytes};
 ghost use Rattle.run_answers.specs.Tally as spec;
 
 use bag_meaning::Built;
+use eddy_core::Answered;
 use std::alloc::{AllocError, Global};
 
 // The number of rows of an alias that were built.
@@ -36,8 +37,8 @@ fn built_text(alloc: Global, aliases: usize, log: &[Built]) -> Result<String, Al
     Ok(text)
 }
 
-/// The line of counts of the statement with this number: the rows that were built of each of so many
-/// aliases, the most hops of a tuple, and the number of keys that were looked up.
+/// The line of counts of the statement with this number, by the record of its run: the rows that were
+/// built of each of so many aliases, the most hops of a tuple, and the number of keys that were looked up.
 ///
 /// # Errors
 /// There is no memory for the line.
@@ -45,12 +46,14 @@ pub fn line_of_counts(
     alloc: Global,
     number: usize,
     aliases: usize,
-    log: &[Built],
-    hops: u32,
-    looked: usize,
+    answered: &Answered<'_>,
 ) -> Result<String, AllocError>
-    ensures { IfOk result (λ line. string_bytes line ≡ spec.line_of_counts number aliases log.now hops looked) }
+    ensures { IfOk result (λ line. string_bytes line ≡ spec.line_of_counts number aliases
+        answered.now.built.items answered.now.most_hops (length answered.now.looked.items)) }
 {
+    let log = answered.built.as_slice();
+    let hops = answered.most_hops;
+    let looked = answered.looked.len();
     let built = built_text(alloc, aliases, log)?;
     format!(in alloc; "query {number}: built {built} hops {hops} looked {looked}\n")
 }

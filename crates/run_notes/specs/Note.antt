@@ -1,5 +1,5 @@
 -- The line that says on the notes why a run was refused.
-use Rattle.std.specs.Prelude.{◌≡◌, ◌≢◌, ◌⊎◌, ℕ, ◌+◌, List, [], ◌∷◌, ◌++◌, map, Option, codes, slice_index_or}
+use Rattle.std.specs.Prelude.{◌≡◌, ◌≢◌, ◌⊎◌, ℕ, ◌+◌, List, [], ◌∷◌, ◌++◌, map, codes, slice_index_or}
 use Rattle.std.specs.Fmt.{decimal}
 use Rattle.outside.specs.Faults.{RoseOrFull}
 use Rattle.outside.specs.Told.{Adds, AddsFront}
@@ -12,6 +12,7 @@ use Rattle.sq_bind.specs.Fault.{place_of}
 use Rattle.sq_bind.specs.declared.fault.BindFault.{BindFault}
 use Rattle.sq_bind.specs.declared.fault.BindFault.TheVariants as bind
 use Rattle.command_line.specs.declared.command.TableWord.{TableWord}
+use Rattle.run_base.specs.Seen.{Sink}
 use Rattle.run_plan.specs.declared.status.Status.{Status}
 use Rattle.run_plan.specs.declared.status.Status.TheVariants as status
 use Rattle.run_plan.specs.declared.status.FileOf.{FileOf}
@@ -108,15 +109,15 @@ unfoldable pub line_of : List (List ℕ) → Status → List ℕ
 line_of names s = note names s ++ 10 ∷ []
 
 -- a sink has a line more, or a front of it where its count rose
-abbrev pub IsNoted : Option (List ℕ) → Option (List ℕ) → ℕ → ℕ → List ℕ → Type 0
-IsNoted before now count counted line =
-    Adds before now line ⊎ (RoseOrFull count counted × AddsFront before now line)
+abbrev pub IsNoted : Sink → Sink → List ℕ → Type 0
+IsNoted before now line =
+    Adds before.written now.written line
+    ⊎ (RoseOrFull before.faults now.faults × AddsFront before.written now.written line)
 
 -- what a run over tables of these names puts to the notes where it would end by a status: nothing where it is done, and
 -- else the line of the status that it ends by, which is that one or want of memory
-pub record NotesOf (names : List (List ℕ)) (before now : Option (List ℕ)) (count counted : ℕ)
-    (s ended : Status) : Type 0 where
+pub record NotesOf (names : List (List ℕ)) (before now : Sink) (s ended : Status) : Type 0 where
   pub either : (ended ≡ s) ⊎ (ended ≡ status.Memory)
-  pub silent : ended ≡ status.Done → now ≡ before
-  pub silent_count : ended ≡ status.Done → counted ≡ count
-  pub noted : ended ≢ status.Done → IsNoted before now count counted (line_of names ended)
+  pub silent : ended ≡ status.Done → now.written ≡ before.written
+  pub silent_count : ended ≡ status.Done → now.faults ≡ before.faults
+  pub noted : ended ≢ status.Done → IsNoted before now (line_of names ended)

@@ -4,6 +4,7 @@ ghost use Rattle.std.specs.Prelude.{◌≡◌, ◌⊎◌, ◌++◌, [], IfOk, co
 ghost use Rattle.std.specs.String.{string_bytes};
 ghost use Rattle.sq_bind.specs.Fault.{place_of};
 ghost use Rattle.sq_parse.specs.Fault.{fault_place};
+ghost use Rattle.run_base.specs.Seen.{sink_seen};
 ghost use Rattle.run_notes.specs.Note as spec;
 ghost use Rattle.run_notes.specs.Note.{IsNoted, NotesOf, line_of, names_of};
 
@@ -248,7 +249,8 @@ fn line_of(alloc: Global, tables: &[TableWord], status: Status) -> Result<String
 
 // One put of a line. A fault of the notes changes nothing else.
 fn put_line<N: Sink>(line: &[u8], notes: &mut N)
-    ensures { IsNoted (N.written notes.old) (N.written notes.new) (N.faults notes.old) (N.faults notes.new) line.now }
+    ensures { IsNoted (sink_seen (N.written notes.old) (N.faults notes.old))
+        (sink_seen (N.written notes.new) (N.faults notes.new)) line.now }
 {
     let _ = notes.put(line);
 }
@@ -261,8 +263,8 @@ fn put_refusal<N: Sink>(
     notes: &mut N,
 ) -> Status
     ensures either { (result ≡ status) ⊎ (result ≡ Status.Memory) }
-    ensures noted { IsNoted (N.written notes.old) (N.written notes.new) (N.faults notes.old) (N.faults notes.new)
-        (line_of (names_of tables.now) result) }
+    ensures noted { IsNoted (sink_seen (N.written notes.old) (N.faults notes.old))
+        (sink_seen (N.written notes.new) (N.faults notes.new)) (line_of (names_of tables.now) result) }
 {
     match line_of(alloc, tables, status) {
         Ok(line) => {
@@ -284,8 +286,8 @@ pub fn put_note<N: Sink>(
     status: Status,
     notes: &mut N,
 ) -> Status
-    ensures { NotesOf (names_of tables.now) (N.written notes.old) (N.written notes.new) (N.faults notes.old)
-        (N.faults notes.new) status result }
+    ensures { NotesOf (names_of tables.now) (sink_seen (N.written notes.old) (N.faults notes.old))
+        (sink_seen (N.written notes.new) (N.faults notes.new)) status result }
 {
     if status == Status::Done {
         return status;

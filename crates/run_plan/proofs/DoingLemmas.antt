@@ -6,7 +6,7 @@ use Rattle.std.proofs.lemmas.Result.{err_from_is_err_and}
 use Rattle.outside.specs.Files.{File}
 use Rattle.outside.specs.Faults.{RoseOrFull}
 use Rattle.run_plan.specs.Doing.{Went, Stopped, Refuses, never}
-use Rattle.run_plan.specs.Seen.{Folder}
+use Rattle.run_base.specs.Seen.{Folder}
 use Rattle.run_plan.specs.declared.status.FileOf.{FileOf}
 use Rattle.run_plan.specs.declared.status.Status.{Status}
 use Rattle.run_plan.specs.declared.status.Status.TheVariants as status

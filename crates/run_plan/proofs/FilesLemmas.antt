@@ -19,7 +19,7 @@ use Rattle.run_plan.specs.Faults.{Sort, Plain, PastLimit, NoMemory, table_sort, 
 use Rattle.run_plan.specs.Files.{short_text, file_read, table_read, tables_read, catalogue_of, catalogue_read}
 use Rattle.run_plan.specs.Loaded.{load_status}
 use Rattle.run_plan.specs.Prepared.{ReachedTable}
-use Rattle.run_plan.specs.Seen.{Folder}
+use Rattle.run_base.specs.Seen.{Folder}
 use Rattle.run_plan.specs.Steps.{◌>>=◌, ComesTo, or_refuse, or_fault}
 use Rattle.run_plan.specs.declared.status.Status.{Status}
 use Rattle.run_plan.specs.declared.status.Status.TheVariants as status
@@ -27,6 +27,7 @@ use Rattle.run_plan.specs.declared.status.FileOf.{FileOf}
 use Rattle.run_plan.specs.declared.status.FileOf.TheVariants as file
 use Rattle.run_plan.specs.declared.status.LimitOf.TheVariants as limit
 use Rattle.run_plan.proofs.DoingLemmas.{refuses_memory}
+use Rattle.run_plan.proofs.StageLemmas.{file_refuses, file_between}
 
 -- ---- a file
 
@@ -87,9 +88,9 @@ stopped_long f name bytes old new keeps kept gives long = record {
   keeps = keeps;
   counts = omega (arith, kept);
   kept = kept;
-  refused = λ files told. sym (short_text-long f bytes long) ∙ file_read-loaded f files name old.holds bytes told gives;
+  refused = λ files told. file_refuses f _ (sym (short_text-long f bytes long) ∙ file_read-loaded f files name old.holds bytes told gives);
   read = λ g e. absurd cc;
-  early = record { between = tt; founded = tt; placed = tt };
+  early = record { between = file_between f; founded = tt; placed = tt };
 }
 
 -- a load that failed
@@ -101,9 +102,9 @@ stopped_load f name load.Absent old new keeps counts absent kept rose = record {
   keeps = keeps;
   counts = counts;
   kept = kept refl;
-  refused = λ files told. sym (file_read-lacks f files name old.holds told (absent refl));
+  refused = λ files told. file_refuses f _ (sym (file_read-lacks f files name old.holds told (absent refl)));
   read = λ g e. absurd cc;
-  early = record { between = tt; founded = told_by old.holds (absent refl); placed = tt };
+  early = record { between = file_between f; founded = told_by old.holds (absent refl); placed = tt };
 }
   where
     told_by : (held : Option (List File)) → Lacks held name → IsSome held
@@ -115,7 +116,7 @@ stopped_load f name load.Failed old new keeps counts absent kept rose = record {
   kept = tt;
   refused = λ files told. refl;
   read = λ g e. rose refl;
-  early = record { between = tt; founded = tt; placed = tt };
+  early = record { between = file_between f; founded = tt; placed = tt };
 }
 stopped_load f name load.Memory old new keeps counts absent kept rose = record {
   keeps = keeps;

@@ -1,10 +1,11 @@
--- What the stage of a status tells of a step's refusal.
+-- What the phase and the stage of a status tell of a step's refusal.
 use Rattle.std.proofs.Common.{◌≡◌, Option, Some, None, refl, ap, subst}
 use Rattle.std.specs.Prelude.{MatchOption, ⊤}
-use Rattle.run_plan.specs.Stage.{stage_of, file_unread}
-use Rattle.run_plan.specs.Refusal.{RefusesAt, MayRefuse, IsBetween, IsFounded, IsEarly, HoldsAt, UnlessReadOrMemory}
+use Rattle.run_plan.specs.Stage.{Phase, Before, Writing, AnyTime, phase_of, phase_of_file, stage_of, file_unread}
+use Rattle.run_plan.specs.Refusal.{RefusesIn, MayRefuse, IsNotWriting, IsBetween, IsFounded, IsEarly, HoldsAt, UnlessReadOrMemory}
 use Rattle.run_plan.specs.Doing.{never}
 use Rattle.run_plan.specs.declared.status.FileOf.{FileOf}
+use Rattle.run_plan.specs.declared.status.FileOf.TheVariants as file
 use Rattle.run_plan.specs.declared.status.Stage.{Stage}
 use Rattle.run_plan.specs.declared.status.Stage.TheVariants as stage
 use Rattle.run_plan.specs.declared.status.Status.{Status}
@@ -15,18 +16,17 @@ pub pure_unread : (P : Type 0) (s : Status) (f : FileOf) → MayRefuse never P s
 pure_unread P s f h e = subst (MayRefuse never P) e h
 
 -- a refusal for a reason that is weaker
-weaker_at : (st : Stage) (P Q : Type 0) → (P → Q) → RefusesAt st P → RefusesAt st Q
-weaker_at stage.Memory P Q f h = tt
-weaker_at stage.Run P Q f h = h
-weaker_at stage.Output P Q f h = h
-weaker_at _ P Q f h = f h
+weaker_in : (phase : Phase) (P Q : Type 0) → (P → Q) → RefusesIn phase P → RefusesIn phase Q
+weaker_in Before P Q f h = f h
+weaker_in Writing P Q f h = h
+weaker_in AnyTime P Q f h = tt
 
 pub MayRefuse-weaker : (reads others : FileOf → Type 0) (P Q : Type 0) (s : Status) → (P → Q) → ((f : FileOf) → reads f → others f)
     → MayRefuse reads P s → MayRefuse others Q s
 MayRefuse-weaker reads others P Q s f weaker h = by (file_unread s) h
   where
-    by : (o : Option FileOf) → MatchOption o (RefusesAt (stage_of s) P) reads → MatchOption o (RefusesAt (stage_of s) Q) others
-    by None k = weaker_at (stage_of s) P Q f k
+    by : (o : Option FileOf) → MatchOption o (RefusesIn (phase_of s) P) reads → MatchOption o (RefusesIn (phase_of s) Q) others
+    by None k = weaker_in (phase_of s) P Q f k
     by (Some g) k = weaker g k
 
 -- what a step may answer where less is told
@@ -62,17 +62,26 @@ holds_same s P Q f = by (file_unread s)
     by (Some g) h = tt
 
 -- what a status between the words and the output isn't
-between_not : (s : Status) (st : Stage) → stage_of s ≡ st → (IsBetween st → ⊥) → IsBetween (stage_of s) → ⊥
-between_not s st e none h = none (subst IsBetween e h)
+between_not : (s t : Status) → s ≡ t → (IsBetween t → ⊥) → IsBetween s → ⊥
+between_not s t e none h = none (subst IsBetween e h)
 
 pub early_not_done : (told : Type 0) (s : Status) → IsEarly told s → s ≡ status.Done → ⊥
-early_not_done told s h e = between_not s stage.Run (ap stage_of e) (λ x. x) h.between
+early_not_done told s h e = between_not s status.Done e (λ x. x) h.between
 
 pub early_not_write : (told : Type 0) (s : Status) → IsEarly told s → s ≡ status.Write → ⊥
-early_not_write told s h e = between_not s stage.Output (ap stage_of e) (λ x. x) h.between
+early_not_write told s h e = between_not s status.Write e (λ x. x) h.between
 
 pub early_not_usage : (told : Type 0) (s : Status) → IsEarly told s → s ≡ status.Usage → ⊥
-early_not_usage told s h e = between_not s stage.Words (ap stage_of e) (λ x. x) h.between
+early_not_usage told s h e = between_not s status.Usage e (λ x. x) h.between
+
+-- a refusal at a file comes before the output
+pub file_refuses : (f : FileOf) (P : Type 0) → P → RefusesIn (phase_of_file f) P
+file_refuses file.Script P h = h
+file_refuses (file.Table number) P h = h
+
+pub file_between : (f : FileOf) → IsNotWriting (phase_of_file f)
+file_between file.Script = tt
+file_between (file.Table number) = tt
 
 pub early_not_found : (told : Type 0) (s : Status) (f : FileOf) → IsEarly told s → s ≡ status.NotFound f → told
 early_not_found told s f h e = subst (IsFounded told) e h.founded
@@ -87,7 +96,7 @@ pub MayRefuse-read : (reached : FileOf → Type 0) (rose P : Type 0) (s : Status
     → MayRefuse reached P s → MayRefuse (λ f. rose × reached f) P s
 MayRefuse-read reached rose P s read h = by (file_unread s) refl h
   where
-    by : (o : Option FileOf) → file_unread s ≡ o → MatchOption o (RefusesAt (stage_of s) P) reached
-        → MatchOption o (RefusesAt (stage_of s) P) (λ f. rose × reached f)
+    by : (o : Option FileOf) → file_unread s ≡ o → MatchOption o (RefusesIn (phase_of s) P) reached
+        → MatchOption o (RefusesIn (phase_of s) P) (λ f. rose × reached f)
     by None e k = k
     by (Some f) e k = (read f (read_only s f e), k)

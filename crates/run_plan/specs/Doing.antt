@@ -5,7 +5,7 @@ use Rattle.outside.specs.Faults.{NeverFalls, RoseOrFull}
 use Rattle.sq_parse.specs.Spelling.{Spelled}
 use Rattle.sq_parse.specs.declared.tree.Script.{Script}
 use Rattle.run_plan.specs.Refusal.{MayRefuse, IsEarly, UnlessReadOrMemory}
-use Rattle.run_plan.specs.Seen.{Folder}
+use Rattle.run_base.specs.Seen.{Folder}
 use Rattle.run_plan.specs.declared.status.FileOf.{FileOf}
 use Rattle.run_plan.specs.declared.status.Status.{Status}
 use Rattle.run_plan.specs.declared.status.Status.TheVariants as status

@@ -5,7 +5,6 @@ pub mod Files
 pub mod Accesses
 pub mod DemoScript
 pub mod Prepared
-pub mod Seen
 pub mod Refusal
 pub mod Doing
 pub mod Loaded

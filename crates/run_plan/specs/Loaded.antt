@@ -7,7 +7,7 @@ use Rattle.catalogue.specs.Named.{NamedTables, with_table}
 use Rattle.command_line.specs.declared.command.TableWord.{TableWord}
 use Rattle.run_plan.specs.Doing.{Went}
 use Rattle.run_plan.specs.Files.{table_read}
-use Rattle.run_plan.specs.Seen.{Folder}
+use Rattle.run_base.specs.Seen.{Folder}
 use Rattle.run_plan.specs.Steps.{ComesTo}
 use Rattle.run_plan.specs.declared.status.Status.{Status}
 use Rattle.run_plan.specs.declared.status.Status.TheVariants as status

@@ -3,7 +3,6 @@ use Rattle.std.specs.Prelude.{◌≡◌, ◌<◌, ℕ, ◌+◌, ◌%◌, List, [
 use Rattle.sq_value.specs.declared.value.Value.{Value}
 use Rattle.sq_value.specs.declared.value.Truth.{Truth}
 use Rattle.sq_value.specs.declared.predicate.Kinds.{Kinds}
-use Rattle.sq_expr.specs.declared.block.Block.{Block}
 use Rattle.outside.specs.Files.{File}
 use Rattle.sq_parse.specs.Fault.{ReadsAs}
 use Rattle.sq_parse.specs.declared.parser.ParseFault.{ParseFault}
@@ -19,6 +18,7 @@ use Rattle.demo_tables.specs.Demo.{demo}
 use Rattle.command_line.specs.declared.command.AccessWord.{AccessWord}
 use Rattle.command_line.specs.declared.command.Query.{Query}
 use Rattle.command_line.specs.declared.command.TableWord.{TableWord}
+use Rattle.run_base.specs.declared.bound.Bound.{Bound}
 use Rattle.run_plan.specs.DemoScript.{demo_script}
 use Rattle.run_plan.specs.Faults.{script_status, bind_status}
 use Rattle.run_plan.specs.Files.{file_read, tables_read, catalogue_read}
@@ -45,25 +45,25 @@ IsSpelled text due = (read : Result Script ParseFault) × ReadsAs text read × (
 abbrev pub IsScript : List File → List ℕ → Result Script Status → Type 0
 IsScript files name due = AndThen (ComesTo (file_read file.Script files name)) IsSpelled due
 
--- what a statement is bound to: its block, or its fault; statements count from 1
-abbrev pub IsBlock : Scope → ℕ → Statement → Result Block Status → Type 0
-IsBlock scope number s (Ok block) = binding.IsBound scope s block
-IsBlock scope number s (Err refusal) =
+-- what a statement is bound to, or its fault; statements count from 1
+abbrev pub IsBoundTo : Scope → ℕ → Statement → Result Bound Status → Type 0
+IsBoundTo scope number s (Ok bound) = binding.IsBound scope s bound.block
+IsBoundTo scope number s (Err refusal) =
     (f : BindFault) × binding.IsBindFault scope s f × (refusal ≡ bind_status number f)
 
 -- what statements are bound to, in order, the first of them with this number
-unfoldable pub AreBlocks : Scope → ℕ → List Statement → Result (List Block) Status → Type 0
-AreBlocks scope number [] due = due ≡ Ok []
-AreBlocks scope number (s ∷ more) due =
-    AndThen (IsBlock scope number s)
-    (λ block. AndThen (AreBlocks scope (number + 1) more) (λ blocks. ComesTo (Ok (block ∷ blocks)))) due
+unfoldable pub AreBoundTo : Scope → ℕ → List Statement → Result (List Bound) Status → Type 0
+AreBoundTo scope number [] due = due ≡ Ok []
+AreBoundTo scope number (s ∷ more) due =
+    AndThen (IsBoundTo scope number s)
+    (λ bound. AndThen (AreBoundTo scope (number + 1) more) (λ bounds. ComesTo (Ok (bound ∷ bounds)))) due
 
 -- the plan of a script over a catalogue: the accesses' columns are found, and then all statements are bound
 abbrev pub IsBoundPlan : Predicates → List AccessWord → Script → NamedTables → Result Plan Status → Type 0
 IsBoundPlan p asked script catalogue due =
     AndThen (ComesTo (accesses_read catalogue.tables asked))
-    (λ accesses. AndThen (AreBlocks (over catalogue accesses p.calls) 1 script.statements)
-    (λ blocks. ComesTo (Ok record { blocks = blocks; catalogue = catalogue }))) due
+    (λ accesses. AndThen (AreBoundTo (over catalogue accesses p.calls) 1 script.statements)
+    (λ bounds. ComesTo (Ok record { statements = bounds; catalogue = catalogue }))) due
 
 -- what is to be run: the script is read first, and then the tables in order
 unfoldable pub IsPlan : Predicates → Query → List File → Result Plan Status → Type 0

@@ -1,5 +1,8 @@
--- What a run was at when it ended: the stage of each status, by which all goes that speaks of every status.
+-- What a run was at when it ended: the stage of each status, which tells its exit status; and its phase.
 use Rattle.std.specs.Prelude.{ℕ, Option, Some, None}
+use Rattle.run_plan.specs.declared.status.LimitOf.{LimitOf}
+use Rattle.run_plan.specs.declared.status.LimitOf.TheVariants as limit
+use Rattle.run_plan.specs.declared.status.FileOf.TheVariants as file
 use Rattle.run_plan.specs.declared.status.FileOf.{FileOf}
 use Rattle.run_plan.specs.declared.status.Stage.{Stage}
 use Rattle.run_plan.specs.declared.status.Stage.TheVariants as stage
@@ -35,3 +38,34 @@ code_of stage.Files = 5
 code_of stage.Output = 6
 code_of stage.Limits = 7
 code_of stage.Memory = 9
+
+-- when in a run a status comes: before anything is due to be written, from then on, or at any time
+pub data Phase : Type 0 where
+  Before : Phase
+  Writing : Phase
+  AnyTime : Phase
+
+-- the script and all tables are loaded before anything is written
+abbrev pub phase_of_file : FileOf → Phase
+phase_of_file file.Script = Before
+phase_of_file (file.Table number) = Before
+
+abbrev pub phase_of_limit : LimitOf → Phase
+phase_of_limit (limit.File file) = phase_of_file file
+phase_of_limit (limit.Parse fault) = Before
+phase_of_limit (limit.Table number fault) = Before
+phase_of_limit (limit.Bind statement fault) = Before
+
+-- the phase of a status, by its file and its limit
+abbrev pub phase_of : Status → Phase
+phase_of Done = Writing
+phase_of Usage = Before
+phase_of (Script fault) = Before
+phase_of (Bind statement fault) = Before
+phase_of (BadTable table fault) = Before
+phase_of (NoColumn access) = Before
+phase_of (NotFound file) = phase_of_file file
+phase_of (Read file) = phase_of_file file
+phase_of Write = Writing
+phase_of (Limit limit) = phase_of_limit limit
+phase_of Memory = AnyTime

@@ -2,8 +2,7 @@
 
 ghost use Rattle.std.specs.Prelude.{◌≡◌, ◌≤◌, ◌%◌, [], Ok, Err, IfOk, IfErr, All, length};
 ghost use Rattle.command_line.specs.Within.{IsDemo};
-ghost use Rattle.sq_expr.specs.Fits.{IsFit};
-ghost use Rattle.sq_expr.specs.Reach.{IsReachable};
+ghost use Rattle.run_base.specs.Runnable.{IsRunnable};
 ghost use Rattle.demo_tables.specs.Demo as tables;
 ghost use Rattle.run_plan.specs.DemoScript as demo_spec;
 ghost use Rattle.run_plan.specs.Doing.{Refuses, IsParsedScript};
@@ -42,8 +41,8 @@ fn plan_demo<P: Predicates>(
     requires parsed { IsParsedScript script.now }
     ensures ok { let p = predicates (P.number_of functions.now) (P.kinds_of functions.now) P.gives in
         IfOk result (λ plan. spec.IsBoundPlan p [] script.now (tables.demo rows (seed % 1000)) (Ok plan)) }
-    ensures fit { IfOk result (λ plan. All (IsFit (P.kinds_of functions.now) plan.catalogue.tables) plan.blocks) }
-    ensures reachable { IfOk result (λ plan. All IsReachable plan.blocks) }
+    ensures run { IfOk result (λ plan.
+        All (IsRunnable (P.kinds_of functions.now) plan.catalogue.tables) plan.statements) }
     ensures refused { let p = predicates (P.number_of functions.now) (P.kinds_of functions.now) P.gives in
         IfErr result (λ s. Refuses (spec.IsBoundPlan p [] script.now (tables.demo rows (seed % 1000)) (Err s)) s) }
 {
@@ -67,8 +66,8 @@ pub fn prepare_demo<P: Predicates>(
     requires { IsDemo rows }
     ensures ok { let p = predicates (P.number_of functions.now) (P.kinds_of functions.now) P.gives in
         IfOk result (λ plan. spec.IsDemoPlan p rows seed (Ok plan)) }
-    ensures fit { IfOk result (λ plan. All (IsFit (P.kinds_of functions.now) plan.catalogue.tables) plan.blocks) }
-    ensures reachable { IfOk result (λ plan. All IsReachable plan.blocks) }
+    ensures run { IfOk result (λ plan.
+        All (IsRunnable (P.kinds_of functions.now) plan.catalogue.tables) plan.statements) }
     ensures refused { let p = predicates (P.number_of functions.now) (P.kinds_of functions.now) P.gives in
         IfErr result (λ s. Refuses (spec.IsDemoPlan p rows seed (Err s)) s) }
 {

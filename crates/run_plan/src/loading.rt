@@ -9,7 +9,7 @@ ghost use Rattle.run_plan.specs.Files.{file_read, table_read, catalogue_read};
 ghost use Rattle.run_plan.specs.Loaded as loaded;
 ghost use Rattle.run_plan.specs.Loaded.{AddsTable};
 ghost use Rattle.run_plan.specs.Prepared.{ReachedTable};
-ghost use Rattle.run_plan.specs.Seen.{folder_seen};
+ghost use Rattle.run_base.specs.Seen.{folder_seen};
 ghost use Rattle.run_plan.specs.Steps.{ComesTo, or_fault};
 ghost use Rattle.run_plan.specs.declared.status.FileOf.TheVariants as file_of;
 

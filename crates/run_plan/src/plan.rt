@@ -1,11 +1,11 @@
 //! What a run runs.
 use catalogue::Catalogue;
-use sq_expr::Block;
+use run_base::Bound;
 use sqlite_items::Items;
 
-/// What a run runs: the blocks of the statements, in order, over the tables of a catalogue.
+/// What a run runs: its statements, bound, in order, over the tables of a catalogue.
 #[derive(Drop)]
 pub struct Plan {
-    pub blocks: Items<Block>,
+    pub statements: Items<Bound>,
     pub catalogue: Catalogue,
 }

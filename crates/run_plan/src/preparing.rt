@@ -5,12 +5,11 @@ ghost use Rattle.std.specs.Prelude.{◌≡◌, ◌<◌, ◌≤◌, ◌+◌, Ok, 
 ghost use Rattle.command_line.specs.Within.{IsAccess, IsQuery};
 ghost use Rattle.sq_bind.specs.Condition.{calling};
 ghost use Rattle.sq_bind.specs.Given.{IsParsed, AreAccesses, over};
-ghost use Rattle.sq_expr.specs.Fits.{IsFit};
-ghost use Rattle.sq_expr.specs.Reach.{IsReachable};
+ghost use Rattle.run_base.specs.Runnable.{IsRunnable};
 ghost use Rattle.run_plan.specs.Doing.{Went, Stopped, Refuses, IsParsedScript};
 ghost use Rattle.run_plan.specs.Prepared as spec;
 ghost use Rattle.run_plan.specs.Prepared.{predicates};
-ghost use Rattle.run_plan.specs.Seen.{folder_seen};
+ghost use Rattle.run_base.specs.Seen.{folder_seen};
 ghost use Rattle.run_plan.specs.declared.status.FileOf.TheVariants as file_of;
 
 use crate::accesses::read_accesses;
@@ -21,8 +20,9 @@ use crate::status::{FileOf, Status};
 use catalogue::Catalogue;
 use command_line::{AccessWord, Query};
 use outside::Folder;
+use run_base::Bound;
 use sq_bind::bind;
-use sq_expr::{Access, Block};
+use sq_expr::Access;
 use sq_parse::{Script, Statement, parse};
 use sq_value::Predicates;
 use sqlite_items::Items;
@@ -60,7 +60,7 @@ fn read_script<F: Folder>(alloc: Global, folder: &mut F, name: &str) -> Result<S
     parse_script(alloc, text.as_slice())
 }
 
-// The block of the statement with this number, which counts from 1.
+// The statement with this number, which counts from 1, bound.
 fn bind_one<P: Predicates>(
     alloc: Global,
     number: u32,
@@ -68,52 +68,50 @@ fn bind_one<P: Predicates>(
     catalogue: &Catalogue,
     accesses: &[Access],
     functions: &P,
-) -> Result<Block, Status>
+) -> Result<Bound, Status>
     requires parsed { IsParsed statement.now }
     requires reached { AreAccesses catalogue.now.tables accesses.now }
     ensures ok { let calls = calling (P.number_of functions.now) (P.kinds_of functions.now) in
-        IfOk result (λ block. spec.IsBlock (over catalogue.now accesses.now calls) number statement.now (Ok block)) }
-    ensures fits { IfOk result (IsFit (P.kinds_of functions.now) catalogue.now.tables) }
-    ensures reachable { IfOk result IsReachable }
+        IfOk result (λ bound. spec.IsBoundTo (over catalogue.now accesses.now calls) number statement.now (Ok bound)) }
+    ensures runs { IfOk result (IsRunnable (P.kinds_of functions.now) catalogue.now.tables) }
     ensures refused { let calls = calling (P.number_of functions.now) (P.kinds_of functions.now) in
         IfErr result (λ s.
-        Refuses (spec.IsBlock (over catalogue.now accesses.now calls) number statement.now (Err s)) s) }
+        Refuses (spec.IsBoundTo (over catalogue.now accesses.now calls) number statement.now (Err s)) s) }
 {
     match bind(alloc, statement, catalogue, accesses, functions) {
-        Ok(block) => Ok(block),
+        Ok(block) => Ok(Bound { block }),
         Err(fault) => Err(bind_status(number, fault)),
     }
 }
 
-// The blocks of a script's statements, in order.
+// The statements of a script, bound, in order.
 fn bind_all<P: Predicates>(
     alloc: Global,
     script: &Script,
     catalogue: &Catalogue,
     accesses: &[Access],
     functions: &P,
-) -> Result<Items<Block>, Status>
+) -> Result<Items<Bound>, Status>
     requires parsed { IsParsedScript script.now }
     requires reached { AreAccesses catalogue.now.tables accesses.now }
     ensures ok { let calls = calling (P.number_of functions.now) (P.kinds_of functions.now) in
-        IfOk result (λ blocks.
-        spec.AreBlocks (over catalogue.now accesses.now calls) 1 script.now.statements (Ok blocks)) }
-    ensures fit { IfOk result (All (IsFit (P.kinds_of functions.now) catalogue.now.tables)) }
-    ensures reachable { IfOk result (All IsReachable) }
+        IfOk result (λ bounds.
+        spec.AreBoundTo (over catalogue.now accesses.now calls) 1 script.now.statements (Ok bounds)) }
+    ensures run { IfOk result (All (IsRunnable (P.kinds_of functions.now) catalogue.now.tables)) }
     ensures refused { let calls = calling (P.number_of functions.now) (P.kinds_of functions.now) in
         IfErr result (λ s.
-        Refuses (spec.AreBlocks (over catalogue.now accesses.now calls) 1 script.now.statements (Err s)) s) }
+        Refuses (spec.AreBoundTo (over catalogue.now accesses.now calls) 1 script.now.statements (Err s)) s) }
 {
     let statements = script.statements.as_slice();
-    let mut blocks = Items::new(alloc);
+    let mut bounds = Items::new(alloc);
     for (index, statement) in statements.iter().enumerate() {
         let number = index as u32 + 1;
-        let block = bind_one(alloc, number, statement, catalogue, accesses, functions)?;
-        let Ok(()) = blocks.push(block) else {
+        let bound = bind_one(alloc, number, statement, catalogue, accesses, functions)?;
+        let Ok(()) = bounds.push(bound) else {
             return Err(Status::Memory);
         };
     }
-    Ok(blocks)
+    Ok(bounds)
 }
 
 /// The plan of a script over the tables of a catalogue, which are reached by these accesses.
@@ -132,14 +130,17 @@ pub fn bind_over<P: Predicates>(
     requires parsed { IsParsedScript script.now }
     ensures ok { let p = predicates (P.number_of functions.now) (P.kinds_of functions.now) P.gives in
         IfOk result (λ plan. spec.IsBoundPlan p asked.now script.now catalogue (Ok plan)) }
-    ensures fit { IfOk result (λ plan. All (IsFit (P.kinds_of functions.now) plan.catalogue.tables) plan.blocks) }
-    ensures reachable { IfOk result (λ plan. All IsReachable plan.blocks) }
+    ensures run { IfOk result (λ plan.
+        All (IsRunnable (P.kinds_of functions.now) plan.catalogue.tables) plan.statements) }
     ensures refused { let p = predicates (P.number_of functions.now) (P.kinds_of functions.now) P.gives in
         IfErr result (λ s. Refuses (spec.IsBoundPlan p asked.now script.now catalogue (Err s)) s) }
 {
     let accesses = read_accesses(alloc, catalogue.tables(), asked)?;
-    let blocks = bind_all(alloc, script, &catalogue, accesses.as_slice(), functions)?;
-    Ok(Plan { blocks, catalogue })
+    let statements = bind_all(alloc, script, &catalogue, accesses.as_slice(), functions)?;
+    Ok(Plan {
+        statements,
+        catalogue,
+    })
 }
 
 // The plan of a script over the tables that were read.
@@ -155,8 +156,8 @@ fn plan_over<P: Predicates>(
     requires count { length catalogue.tables ≡ length query.now.tables }
     ensures ok { let p = predicates (P.number_of functions.now) (P.kinds_of functions.now) P.gives in
         IfOk result (λ plan. spec.IsBoundPlan p query.now.accesses script.now catalogue (Ok plan)) }
-    ensures fit { IfOk result (λ plan. All (IsFit (P.kinds_of functions.now) plan.catalogue.tables) plan.blocks) }
-    ensures reachable { IfOk result (λ plan. All IsReachable plan.blocks) }
+    ensures run { IfOk result (λ plan.
+        All (IsRunnable (P.kinds_of functions.now) plan.catalogue.tables) plan.statements) }
     ensures refused { let p = predicates (P.number_of functions.now) (P.kinds_of functions.now) P.gives in
         IfErr result (λ s. Refuses (spec.IsBoundPlan p query.now.accesses script.now catalogue (Err s)) s) }
 {
@@ -187,8 +188,8 @@ pub fn prepare<F: Folder, P: Predicates>(
         Went (folder_seen (F.holds folder.old) (F.faults folder.old))
         (folder_seen (F.holds folder.new) (F.faults folder.new))
         (λ files. spec.IsPlan p query.now files (Ok plan))) }
-    ensures fit { IfOk result (λ plan. All (IsFit (P.kinds_of functions.now) plan.catalogue.tables) plan.blocks) }
-    ensures reachable { IfOk result (λ plan. All IsReachable plan.blocks) }
+    ensures run { IfOk result (λ plan.
+        All (IsRunnable (P.kinds_of functions.now) plan.catalogue.tables) plan.statements) }
     ensures stopped { let p = predicates (P.number_of functions.now) (P.kinds_of functions.now) P.gives in
         IfErr result (λ s.
         Stopped (folder_seen (F.holds folder.old) (F.faults folder.old))

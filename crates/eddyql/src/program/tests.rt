@@ -79,17 +79,14 @@ fn ends_with_codes(rt: HostRuntime) -> Result<(), Fail> {
         folder.fail_at(u64::from(number_of(fields.next().unwrap_or(""))))?;
         let mut out = MemorySink::with_room(rt.alloc(), 99)?;
         out.fail_at(u64::from(number_of(fields.next().unwrap_or(""))), 0)?;
-        let mut notes = MemorySink::with_room(rt.alloc(), 99)?;
-        let code = program(
-            &rt,
-            rt.alloc(),
-            &words,
-            &mut folder,
-            &mut out,
-            &mut notes,
-            &NoPredicates,
-            &NoGate,
-        );
+        let notes = MemorySink::with_room(rt.alloc(), 99)?;
+        let host = Host {
+            rt: &rt,
+            alloc: rt.alloc(),
+            gate: &NoGate,
+        };
+        let mut outputs = Outputs { out, notes };
+        let code = program(&host, &NoPredicates, &words, &mut folder, &mut outputs);
         assert!(rt; code == ExitCode::from(number_of(fields.next().unwrap_or(""))));
     }
     Ok(())
@@ -106,20 +103,17 @@ fn written_by<R: Threads + Wait + Sync>(
 ) -> Result<usize, Fail> {
     let words = words_of(alloc, texts)?;
     let mut folder = folder_of(alloc, script, first)?;
-    let mut out = MemorySink::with_room(alloc, 99999)?;
-    let mut notes = MemorySink::with_room(alloc, 99)?;
-    let ended = program(
+    let out = MemorySink::with_room(alloc, 99999)?;
+    let notes = MemorySink::with_room(alloc, 99)?;
+    let host = Host {
         rt,
         alloc,
-        &words,
-        &mut folder,
-        &mut out,
-        &mut notes,
-        &NoPredicates,
-        &NoGate,
-    );
+        gate: &NoGate,
+    };
+    let mut outputs = Outputs { out, notes };
+    let ended = program(&host, &NoPredicates, &words, &mut folder, &mut outputs);
     if ended == ExitCode::from(code) {
-        Ok(out.written().len())
+        Ok(outputs.out.written().len())
     } else {
         Ok(usize::MAX)
     }

@@ -6,8 +6,10 @@
 //! begin with `!` stand as they are.
 
 use super::run;
+use crate::host::Host;
 use eddy_worker::NoGate;
 use outside::{Folder, MemoryFolder, MemorySink, SureFolder, SureSink};
+use run_base::Outputs;
 use run_plan::Status;
 use sq_value::NoPredicates;
 use std::alloc::Global;
@@ -322,25 +324,22 @@ fn told<R: Threads + Wait + Sync>(rt: &R, alloc: Global, case: Case<'_>) -> Resu
     if let Some(load) = number(case.fault, "load", 0) {
         folder.fail_at(load as u64)?;
     }
-    let mut out = sink_of(alloc, case.fault)?;
-    let mut notes = MemorySink::with_room(alloc, number(case.fault, "note", 0).unwrap_or(999))?;
-    let status = run(
+    let out = sink_of(alloc, case.fault)?;
+    let notes = MemorySink::with_room(alloc, number(case.fault, "note", 0).unwrap_or(999))?;
+    let host = Host {
         rt,
         alloc,
-        &words,
-        &mut folder,
-        &mut out,
-        &mut notes,
-        &NoPredicates,
-        &NoGate,
-    );
+        gate: &NoGate,
+    };
+    let mut outputs = Outputs { out, notes };
+    let status = run(&host, &NoPredicates, &words, &mut folder, &mut outputs);
     let told = format!(in alloc; "{} {status:?}", status.code())?;
     let written = bytes_of(alloc, case.written)?;
     let note = bytes_of(alloc, case.note)?;
     Ok(
         told.as_str() == case.status
-            && out.written() == written.as_slice()
-            && notes.written() == note.as_slice(),
+            && outputs.out.written() == written.as_slice()
+            && outputs.notes.written() == note.as_slice(),
     )
 }
 
@@ -367,23 +366,20 @@ fn ended_in<F: Folder, R: Threads + Wait + Sync>(
     note: &str,
 ) -> Result<bool, Fail> {
     let words = words_of(alloc, texts)?;
-    let mut out = MemorySink::with_room(alloc, 99)?;
-    let mut notes = MemorySink::with_room(alloc, 99)?;
-    let status = run(
+    let out = MemorySink::with_room(alloc, 99)?;
+    let notes = MemorySink::with_room(alloc, 99)?;
+    let host = Host {
         rt,
         alloc,
-        &words,
-        folder,
-        &mut out,
-        &mut notes,
-        &NoPredicates,
-        &NoGate,
-    );
+        gate: &NoGate,
+    };
+    let mut outputs = Outputs { out, notes };
+    let status = run(&host, &NoPredicates, &words, folder, &mut outputs);
     let said = format!(in alloc; "{status:?}")?;
     Ok(
         said.as_str() == told
-            && notes.written() == note.as_bytes()
-            && out.written().is_empty() == (status != Status::Done),
+            && outputs.notes.written() == note.as_bytes()
+            && outputs.out.written().is_empty() == (status != Status::Done),
     )
 }
 
@@ -427,21 +423,18 @@ fn as_people_write_it(rt: HostRuntime) -> Result<(), Fail> {
     let alloc = rt.alloc();
     let words = words_of(alloc, "people orders")?;
     let mut folder = folder_of(alloc, SPENDERS.as_bytes())?;
-    let mut out = SureSink::with_room(alloc, 99)?;
-    let mut notes = SureSink::with_room(alloc, 99)?;
-    let status = run(
-        &rt,
+    let out = SureSink::with_room(alloc, 99)?;
+    let notes = SureSink::with_room(alloc, 99)?;
+    let host = Host {
+        rt: &rt,
         alloc,
-        &words,
-        &mut folder,
-        &mut out,
-        &mut notes,
-        &NoPredicates,
-        &NoGate,
-    );
+        gate: &NoGate,
+    };
+    let mut outputs = Outputs { out, notes };
+    let status = run(&host, &NoPredicates, &words, &mut folder, &mut outputs);
     assert_eq!(rt; status, Status::Done);
-    assert!(rt; out.written() == b"who,total\n\"Ng, Ada\",120\n".as_slice());
-    assert!(rt; notes.written().is_empty());
+    assert!(rt; outputs.out.written() == b"who,total\n\"Ng, Ada\",120\n".as_slice());
+    assert!(rt; outputs.notes.written().is_empty());
     Ok(())
 }
 
@@ -453,20 +446,17 @@ fn sure_folder_and_sink(rt: HostRuntime) -> Result<(), Fail> {
     let mut folder = SureFolder::new(alloc);
     folder.keep("q", b"SELECT x FROM n")?;
     folder.keep("n", b"x\n1\n2\n")?;
-    let mut out = SureSink::with_room(alloc, 3)?;
-    let mut notes = SureSink::with_room(alloc, 99)?;
-    let status = run(
-        &rt,
+    let out = SureSink::with_room(alloc, 3)?;
+    let notes = SureSink::with_room(alloc, 99)?;
+    let host = Host {
+        rt: &rt,
         alloc,
-        &words,
-        &mut folder,
-        &mut out,
-        &mut notes,
-        &NoPredicates,
-        &NoGate,
-    );
+        gate: &NoGate,
+    };
+    let mut outputs = Outputs { out, notes };
+    let status = run(&host, &NoPredicates, &words, &mut folder, &mut outputs);
     assert_eq!(rt; status, Status::Done);
-    assert!(rt; out.written() == b"x\n1".as_slice());
+    assert!(rt; outputs.out.written() == b"x\n1".as_slice());
     Ok(())
 }
 

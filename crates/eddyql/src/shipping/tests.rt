@@ -64,22 +64,20 @@ fn ends_so<R: Threads + Wait + Sync>(
         words.push(String::from_str(alloc, word)?)?;
     }
     let mut folder = folder_of(alloc, script)?;
-    let mut out = MemorySink::with_room(alloc, 999)?;
-    let mut notes = MemorySink::with_room(alloc, 999)?;
-    let ended = program_as_shipped(
+    let out = MemorySink::with_room(alloc, 999)?;
+    let notes = MemorySink::with_room(alloc, 999)?;
+    let host = Host {
         rt,
         alloc,
-        &words,
-        &mut folder,
-        &mut out,
-        &mut notes,
-        &NoGate,
-    );
+        gate: &NoGate,
+    };
+    let mut outputs = Outputs { out, notes };
+    let ended = program_as_shipped(&host, &words, &mut folder, &mut outputs);
     let told = told.replace(alloc, "/", "\n")?;
     let (said, silent) = if code == "0" {
-        (&out, &notes)
+        (&outputs.out, &outputs.notes)
     } else {
-        (&notes, &out)
+        (&outputs.notes, &outputs.out)
     };
     Ok(
         ended == ExitCode::from(code.parse().unwrap_or(u8::MAX))

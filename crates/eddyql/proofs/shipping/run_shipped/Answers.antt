@@ -1,4 +1,4 @@
-use Rattle.std.proofs.Common.{rules, ◌≡◌, Ok, drop, map}
+use Rattle.std.proofs.Common.{rules, ◌≡◌, drop, map}
 use Rattle.std.specs.String.{string_bytes}
 use Rattle.fn_registry.specs.ShippedSignatures.{shipped_signatures}
 use Rattle.fn_registry.specs.Signatures.{signatures}
@@ -10,8 +10,9 @@ returns-clause-done g c = λ zero files told.
     let same : signatures c.put-3.new.functions ≡ shipped_signatures = search rules in
     let ended = c.program.ensures.done zero files told in (
       ended.0,
-      shipped_outcome (signatures c.put-3.new.functions) (drop 1 (map string_bytes c.args.words.now)) files (Ok ended.0) same ended.1,
+      shipped_outcome (signatures c.put-3.new.functions) (drop 1 (map string_bytes c.args.words.now)) files ended.0 same ended.1,
       ended.2,
+      ended.3,
     )
 
 pub returns-clause-complete : goal.returns-clause-complete
@@ -26,5 +27,5 @@ returns-clause-finished g c =
     let finished = c.program.ensures.finished in (
       finished.0,
       finished.1,
-      shipped_finished (signatures c.put-3.new.functions) _ _ _ _ _ _ _ finished.0 same finished.2,
+      shipped_finished (signatures c.put-3.new.functions) _ _ _ finished.0 same finished.2,
     )

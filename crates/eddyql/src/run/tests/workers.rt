@@ -37,23 +37,20 @@ fn answers<R: Threads + Wait + Sync>(
 ) -> Result<bool, Fail> {
     let words = words_of(alloc, texts)?;
     let mut folder = folder_of(alloc, script.as_bytes())?;
-    let mut out = MemorySink::with_room(alloc, 99)?;
-    let mut notes = MemorySink::with_room(alloc, 99)?;
-    let status = run(
+    let out = MemorySink::with_room(alloc, 99)?;
+    let notes = MemorySink::with_room(alloc, 99)?;
+    let host = Host {
         rt,
         alloc,
-        &words,
-        &mut folder,
-        &mut out,
-        &mut notes,
-        &NoPredicates,
-        &NoGate,
-    );
+        gate: &NoGate,
+    };
+    let mut outputs = Outputs { out, notes };
+    let status = run(&host, &NoPredicates, &words, &mut folder, &mut outputs);
     let written = bytes_of(alloc, written)?;
     Ok(
         status == Status::Done
-            && out.written() == written.as_slice()
-            && hops_in(notes.written()).is_some_and(|hops| hops <= most),
+            && outputs.out.written() == written.as_slice()
+            && hops_in(outputs.notes.written()).is_some_and(|hops| hops <= most),
     )
 }
 
@@ -105,20 +102,17 @@ fn writes<G: Gate, R: Threads + Wait + Sync>(
 ) -> Result<bool, Fail> {
     let words = words_of(alloc, texts)?;
     let mut folder = folder_of(alloc, script.as_bytes())?;
-    let mut out = MemorySink::with_room(alloc, 99)?;
-    let mut notes = MemorySink::with_room(alloc, 99)?;
-    let status = run(
-        rt,
-        alloc,
-        &words,
-        &mut folder,
-        &mut out,
-        &mut notes,
-        &NoPredicates,
-        gate,
-    );
+    let out = MemorySink::with_room(alloc, 99)?;
+    let notes = MemorySink::with_room(alloc, 99)?;
+    let host = Host { rt, alloc, gate };
+    let mut outputs = Outputs { out, notes };
+    let status = run(&host, &NoPredicates, &words, &mut folder, &mut outputs);
     let written = bytes_of(alloc, written)?;
-    Ok(status == Status::Done && out.written() == written.as_slice() && notes.written().is_empty())
+    Ok(
+        status == Status::Done
+            && outputs.out.written() == written.as_slice()
+            && outputs.notes.written().is_empty(),
+    )
 }
 
 // A gate that counts turns of modules.
@@ -272,19 +266,20 @@ fn writes_of_numbers<R: Threads + Wait + Sync>(
     let mut folder = MemoryFolder::new(alloc);
     folder.keep("q", script.as_bytes())?;
     folder.keep("z", numbers_below_100(alloc)?.as_bytes())?;
-    let mut out = MemorySink::with_room(alloc, 20_000)?;
-    let mut notes = MemorySink::with_room(alloc, 99)?;
-    let status = run(
+    let out = MemorySink::with_room(alloc, 20_000)?;
+    let notes = MemorySink::with_room(alloc, 99)?;
+    let host = Host {
         rt,
         alloc,
-        &words,
-        &mut folder,
-        &mut out,
-        &mut notes,
-        &NoPredicates,
-        &NoGate,
-    );
-    Ok(status == Status::Done && out.written() == written.as_bytes() && notes.written().is_empty())
+        gate: &NoGate,
+    };
+    let mut outputs = Outputs { out, notes };
+    let status = run(&host, &NoPredicates, &words, &mut folder, &mut outputs);
+    Ok(
+        status == Status::Done
+            && outputs.out.written() == written.as_bytes()
+            && outputs.notes.written().is_empty(),
+    )
 }
 
 // A join of three by a sum, of which tuples lie in the pool, writes the same by any number of workers.

@@ -1,5 +1,6 @@
 use Rattle.std.proofs.Common.{◌≡◌, Bool, true, Some, length, rules, refl, sym, subst}
 use Rattle.std.specs.String.{string_bytes}
+use Rattle.run_base.specs.Items.{item_over}
 use Rattle.run_answers.specs.Answering.{IsLineFor}
 use Rattle.run_answers.specs.Tally as tell
 use Rattle.run_answers.proofs.TallyLemmas.{line_right}
@@ -8,8 +9,8 @@ use Rattle.run_answers.proofs.answering.line_wanted.Goals as goal
 pub returns-in-Ok-clause-right : goal.returns-in-Ok-clause-right
 returns-in-Ok-clause-right c = λ gives tables h.
     let on : c.args.tally ≡ true = search rules in
-    let is : string_bytes c.in-Ok.line ≡ tell.line_of_counts c.args.number (length c.args.block.now.aliases) c.args.answered.now.built.items
+    let is : string_bytes c.in-Ok.line ≡ tell.line_of_counts c.args.number (length c.args.bound.now.block.aliases) c.args.answered.now.built.items
     c.args.answered.now.most_hops (length c.args.answered.now.looked.items) = search rules in
-    subst (λ (t : Bool). IsLineFor t gives tables c.args.number c.args.block.now (Some (string_bytes c.in-Ok.line))) (sym on)
-    (line_right gives tables c.args.number c.args.block.now c.args.answered.now.combos.items c.args.answered.now.built.items c.args.answered.now.built.items
-    c.args.answered.now.looked.items c.args.answered.now.most_hops (string_bytes c.in-Ok.line) h refl is)
+    subst (λ (t : Bool). IsLineFor t (tell.IsTally gives) c.args.number (item_over tables c.args.bound.now) (Some (string_bytes c.in-Ok.line))) (sym on)
+    (line_right gives c.args.number (item_over tables c.args.bound.now) c.args.answered.now.combos.items c.args.answered.now.built.items
+    c.args.answered.now.built.items c.args.answered.now.looked.items c.args.answered.now.most_hops (string_bytes c.in-Ok.line) h refl is)

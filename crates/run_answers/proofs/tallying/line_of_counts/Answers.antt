@@ -1,8 +1,11 @@
-use Rattle.std.proofs.Common.{refl, ◌∙◌, append_assoc}
+use Rattle.std.proofs.Common.{◌≡◌, refl, ◌∙◌, append_assoc, length, rules}
 use Rattle.std.proofs.lemmas.Result.{IfOk-weaker}
 use Rattle.run_answers.specs.Tally.{line_of_counts}
 use Rattle.run_answers.proofs.tallying.line_of_counts.Goals as goal
 
 pub returns : goal.returns
 unfolding line_of_counts
-returns c = IfOk-weaker c.format.result _ _ (λ s h. h ∙ simp (append_assoc, c.in_ok-built.ensures) refl) c.format.ensures.ok
+returns c =
+    let log : c.as_slice-log.result.now ≡ c.args.answered.now.built.items = search rules in
+    let looked : c.len-looked.result ≡ length c.args.answered.now.looked.items = search rules in
+    IfOk-weaker c.format.result _ _ (λ s h. h ∙ simp (append_assoc, c.in_ok-built.ensures, log, looked) refl) c.format.ensures.ok

@@ -1,6 +1,6 @@
 use Rattle.std.proofs.Common.{◌≡◌, length, take}
 use Rattle.run_plan.specs.Doing.{Went}
-use Rattle.run_plan.specs.Seen.{folder_seen}
+use Rattle.run_base.specs.Seen.{folder_seen}
 use Rattle.run_plan.proofs.FilesLemmas.{IsReadTo}
 use Rattle.run_plan.proofs.loading.load_tables.Given as goal
 

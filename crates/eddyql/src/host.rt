@@ -1,0 +1,22 @@
+//! What a run is handed.
+
+use std::alloc::Global;
+
+/// What a run is handed: the runtime that starts threads, the allocator, and the gate that several
+/// workers call.
+pub struct Host<'h, G, R> {
+    pub rt: &'h R,
+    pub alloc: Global,
+    pub gate: &'h G,
+}
+
+// A derived one would ask that the gate and the runtime can be let go.
+impl<'h, G, R> Drop for Host<'h, G, R> {
+    fn drop(self) {
+        let Self {
+            rt: _,
+            alloc: _,
+            gate: _,
+        } = self;
+    }
+}

@@ -1,0 +1,9 @@
+//! What the plan and the answers of a run share: the world that it sees, and the statements that it
+//! runs.
+#![tactic(auto)]
+
+mod bound;
+mod outputs;
+
+pub use bound::Bound;
+pub use outputs::Outputs;
