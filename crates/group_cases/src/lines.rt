@@ -50,8 +50,8 @@ const LARGE: [Given<'static>; 2] = [
 /// The name of a cell, its set function, and its column.
 type CellOf = (&'static str, Option<AggKind>, u32);
 
-/// A statement over the first rows of a table. With keys its members are grouped, by none of them too. A key of
-/// its order is descending or not.
+/// A statement over the first rows of a table, and its text. With keys, even none, its members are grouped. Each key of
+/// its order says whether it is descending.
 struct Case {
     rows: &'static [Given<'static>],
     count: u32,
@@ -63,7 +63,9 @@ struct Case {
     text: &'static str,
 }
 
+/// Statements with groups.
 const GROUPED: [Case; 8] = [
+    // SELECT cid, COUNT(*) AS k, SUM(amt) FROM ord GROUP BY cid ORDER BY k DESC
     Case {
         rows: &ORDERS,
         count: 4,
@@ -78,6 +80,7 @@ const GROUPED: [Case; 8] = [
         limit: None,
         text: "cid,k,sum\n1,2,12\n2,1,5\n,1,9\n",
     },
+    // the same over no members
     Case {
         rows: &ORDERS,
         count: 0,
@@ -92,6 +95,7 @@ const GROUPED: [Case; 8] = [
         limit: None,
         text: "cid,k,sum\n",
     },
+    // SELECT COUNT(cid), MIN(amt), MAX(amt) FROM ord, over no members
     Case {
         rows: &ORDERS,
         count: 0,
@@ -106,6 +110,7 @@ const GROUPED: [Case; 8] = [
         limit: None,
         text: "count,min,max\n0,,\n",
     },
+    // the same over all members
     Case {
         rows: &ORDERS,
         count: 4,
@@ -120,6 +125,7 @@ const GROUPED: [Case; 8] = [
         limit: None,
         text: "count,min,max\n3,5,9\n",
     },
+    // SELECT MIN(t), MAX(t), SUM(d) FROM ord
     Case {
         rows: &ORDERS,
         count: 4,
@@ -134,6 +140,7 @@ const GROUPED: [Case; 8] = [
         limit: None,
         text: "min,max,sum\nab,b,3.25\n",
     },
+    // SELECT d, COUNT(*) AS k FROM ord GROUP BY d
     Case {
         rows: &ORDERS,
         count: 4,
@@ -144,6 +151,7 @@ const GROUPED: [Case; 8] = [
         limit: None,
         text: "d,k\n1.50,2\n0.25,1\n,1\n",
     },
+    // SELECT e, oid FROM ord GROUP BY e, cid ORDER BY oid DESC, where oid is of the first member
     Case {
         rows: &ORDERS,
         count: 4,
@@ -160,6 +168,7 @@ const GROUPED: [Case; 8] = [
         limit: None,
         text: "e,oid\n,13\n,12\n1.5000,10\n",
     },
+    // SELECT SUM(oid), SUM(amt) AS low, SUM(d) AS none, over numbers whose sums pass 64 bits
     Case {
         rows: &LARGE,
         count: 2,
@@ -176,7 +185,9 @@ const GROUPED: [Case; 8] = [
     },
 ];
 
+/// Statements with DISTINCT or LIMIT.
 const APART: [Case; 7] = [
+    // SELECT DISTINCT amt FROM ord ORDER BY amt LIMIT 2
     Case {
         rows: &ORDERS,
         count: 4,
@@ -187,6 +198,7 @@ const APART: [Case; 7] = [
         limit: Some(2),
         text: "amt\n5\n7\n",
     },
+    // LIMIT 1
     Case {
         rows: &ORDERS,
         count: 4,
@@ -197,6 +209,7 @@ const APART: [Case; 7] = [
         limit: Some(1),
         text: "amt\n5\n",
     },
+    // LIMIT 9, past the end
     Case {
         rows: &ORDERS,
         count: 4,
@@ -207,6 +220,7 @@ const APART: [Case; 7] = [
         limit: Some(9),
         text: "amt\n5\n7\n9\n",
     },
+    // SELECT amt FROM ord LIMIT 0
     Case {
         rows: &ORDERS,
         count: 4,
@@ -217,6 +231,7 @@ const APART: [Case; 7] = [
         limit: Some(0),
         text: "amt\n",
     },
+    // SELECT x FROM n LIMIT 0
     Case {
         rows: &NUMBERS,
         count: 3,
@@ -227,6 +242,7 @@ const APART: [Case; 7] = [
         limit: Some(0),
         text: "x\n",
     },
+    // SELECT DISTINCT e FROM ord
     Case {
         rows: &ORDERS,
         count: 4,
@@ -237,6 +253,7 @@ const APART: [Case; 7] = [
         limit: None,
         text: "e\n1.5000\n\"\"\n",
     },
+    // SELECT DISTINCT amt FROM ord ORDER BY oid DESC
     Case {
         rows: &ORDERS,
         count: 4,
@@ -319,7 +336,8 @@ fn is_right(alloc: Global, case: &Case) -> Result<bool, Fail> {
 #[test]
 fn groups_have_lines(rt: HostRuntime) -> Result<(), Fail> {
     for case in &GROUPED {
-        assert!(rt; is_right(rt.alloc(), case)?);
+        let text = case.text;
+        assert!(rt; is_right(rt.alloc(), case)?, "{text}");
     }
     Ok(())
 }
@@ -327,7 +345,8 @@ fn groups_have_lines(rt: HostRuntime) -> Result<(), Fail> {
 #[test]
 fn lines_are_told_apart_and_limited(rt: HostRuntime) -> Result<(), Fail> {
     for case in &APART {
-        assert!(rt; is_right(rt.alloc(), case)?);
+        let text = case.text;
+        assert!(rt; is_right(rt.alloc(), case)?, "{text}");
     }
     Ok(())
 }
