@@ -45,6 +45,20 @@ class Repository:
         return read(f"{self.top}/{file}")
 
 
+def pages(top):
+    """The pages that people read, as paths from the top: all but docs/INDEX.md, which a tool makes, and raw runs of bench/."""
+    folders = ["docs", "bench", *(f"{it}/{name}" for it in ("examples", "crates") for name in listed(f"{top}/{it}"))]
+    found = ["README.md"]
+    for folder in folders:
+        names = listed(f"{top}/{folder}") if folder == "docs" else ["README.md"]
+        found += [f"{folder}/{it}" for it in names if it.endswith(".md") and f"{folder}/{it}" != "docs/INDEX.md"]
+    return [it for it in found if os.path.isfile(f"{top}/{it}")]
+
+
+def listed(folder):
+    return sorted(os.listdir(folder)) if os.path.isdir(folder) else []
+
+
 def read(path):
     with open(path, encoding="utf-8", errors="replace") as it:
         return it.read()
