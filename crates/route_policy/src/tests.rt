@@ -6,7 +6,9 @@ ghost use Rattle.tuple_span.specs.declared.route.Via.TheVariants as via;
 ghost use Rattle.tuple_span.specs.declared.route.Route.TheVariants as route;
 ghost use Rattle.route_policy.specs.Routes.{AreChoices};
 
-use crate::{AnyPolicy, Greedy, Lottery, Policy, PolicyCall, Pressure, Recorder, RouteScript, ScriptFault};
+use crate::{
+    AnyPolicy, Greedy, Lottery, Policy, PolicyCall, Pressure, Recorder, RouteScript, ScriptFault,
+};
 use std::alloc::{AllocError, Global};
 use std::test::Fail;
 use tuple_span::{Route, Tuple, Via};
@@ -147,7 +149,11 @@ fn after(greedy: &mut Greedy, legal: &[Route], place: usize, count: u64) -> usiz
 #[test]
 fn greedy_arrivals(rt: HostRuntime) {
     let mut greedy = Greedy::new();
-    let legal = [Route::Select(3), Route::Select(5), Route::Build { alias: 2 }];
+    let legal = [
+        Route::Select(3),
+        Route::Select(5),
+        Route::Build { alias: 2 },
+    ];
     assert_eq!(rt; greedy.choose(&Tuple::single(0, 0), &legal), 0);
     // each selection is expected to keep 64 of 1,024, and then the first one 60
     assert_eq!(rt; after(&mut greedy, &legal, 0, 1), 1);
