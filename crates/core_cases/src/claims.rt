@@ -17,19 +17,19 @@ p id:int,b:int/0,1/1,1/2,2/3,2/4,3/5,3/6,4/7,4
 q a:int,b:int/1,1/1,1/2,2/2,2/3,3/3,3/4,4/4,4
 r a:int,s:int/1,0/1,1/2,2/2,3/3,4/3,5/4,6/4,7";
 
-/// Surveys: the order of the aliases; a bar, the ways of the tables, a bar, and the statement.
+/// Surveys: the order of the aliases; a bar, the ways of the tables, a bar, the statement, and a bar with a word.
 ///
 /// Of `a` and `b` each may drive for ten tuples: the one of more rows does. Of the chain its middle and its filtered
 /// tail cost 19 tuples, and its head 25; the middle is closer to the others. Without an equality the first of about
 /// equal rows drives, and a table that isn't scanned is left out.
 const SURVEYS: &str = "\
-0 1 | s s s s s s | SELECT x FROM a, b WHERE a.x = b.y
-1 0 | s s s s s s | SELECT x FROM b, a WHERE a.x = b.y
-0 | s s s s s s | SELECT x FROM a
-1 0 | s s s s s s | SELECT x FROM a, c
-0 2 1 | s s s s s s | SELECT id FROM p, q, r WHERE p.b = q.a AND q.b = r.a AND r.s < 1
-2 0 1 | s s s s s s | SELECT id FROM r, q, p WHERE p.b = q.a AND q.b = r.a AND r.s < 1
-0 | s 0 s s s s | SELECT x FROM a, b WHERE a.x = b.y";
+0 1 | s s s s s s | SELECT x FROM a, b WHERE a.x = b.y | survey
+1 0 | s s s s s s | SELECT x FROM b, a WHERE a.x = b.y | survey
+0 | s s s s s s | SELECT x FROM a | survey
+1 0 | s s s s s s | SELECT x FROM a, c | survey
+0 2 1 | s s s s s s | SELECT id FROM p, q, r WHERE p.b = q.a AND q.b = r.a AND r.s < 1 | survey
+2 0 1 | s s s s s s | SELECT id FROM r, q, p WHERE p.b = q.a AND q.b = r.a AND r.s < 1 | survey
+0 | s 0 s s s s | SELECT x FROM a, b WHERE a.x = b.y | survey";
 
 // The order of a case, as text.
 fn order_said(alloc: Global, case: &Case<'_>) -> Result<String, Fail> {
