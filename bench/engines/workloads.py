@@ -368,7 +368,7 @@ def all_workloads(scale):
 
     return [*(equality(of(rows)) for rows in (10_000, 30_000, 100_000, 300_000, 1_000_000)), long_lists(of(20_000)), star(of(500_000)),
             chain(of(20_000)), drift(of(20_000)), tail(of(100_000)), tail(of(100_000), True), drift_of_five(of(100_000)),
-            drift_of_five(of(300_000)), star_by_four(of(500_000)), knot("clique", of(20_000), of(1_000), CLIQUE), knot("cycle", of(20_000), of(5_000), CYCLE),
+            drift_of_five(of(300_000)), star_by_four(of(500_000)), knot("clique", of(20_000), of(500), CLIQUE), knot("cycle", of(20_000), of(5_000), CYCLE),
             composite(of(50_000), 2), composite(of(50_000), 4), skewed(of(20_000)), band(of(30_000)), nulls(of(200_000)), texts(of(750_000)), small(of(1_000)), order(of(900_000))]
 
 
