@@ -1,7 +1,7 @@
 #!/usr/bin/env python3
-"""Counts the routings of a run under the lottery, pressure and each route script, on the benchmark's workloads where the order
-of joins matters. A route script takes one order for all rows; so this tells how near a policy, which knows nothing beforehand,
-comes to the best order.
+"""Counts the routings of a run under the lottery, pressure, the greedy policy and each route script, on the benchmark's workloads where the order
+of joins matters. A route script takes one order for all rows, and claims in turn; under the lottery and the greedy policy claims go by
+a survey. So this tells how near a policy, which knows nothing beforehand, comes to the best order, or how far it goes below it.
 
     bench/routes.py [--program PROGRAM] [--scale SCALE] [WORKLOAD..]
 
@@ -58,11 +58,11 @@ def count(program, workload, folder):
     with open(f"{folder}/script.sql", "w", encoding="utf-8") as file:
         file.write(";\n".join(workload.statements) + ";\n")
     scripts = [routings(program, ["--policy", "script", "--route", it], files, folder) for it in workload.routes]
-    lottery, pressure = (routings(program, ["--policy", it], files, folder) for it in ("lottery", "pressure"))
-    if any(it[1] != lottery[1] for it in [pressure, *scripts]):
+    lottery, pressure, greedy = (routings(program, ["--policy", it], files, folder) for it in ("lottery", "pressure", "greedy"))
+    if any(it[1] != lottery[1] for it in [pressure, greedy, *scripts]):
         raise ValueError(f"{workload.name}: answers differ")
     best, worst = (choose(it[0] for it in scripts) for choose in (min, max))
-    print(f"| {workload.name} | {best:,} | ×{lottery[0] / best:.2f} | ×{pressure[0] / best:.2f} | ×{worst / best:.2f} |", flush=True)
+    print(f"| {workload.name} | {best:,} | ×{lottery[0] / best:.2f} | ×{pressure[0] / best:.2f} | ×{greedy[0] / best:.2f} | ×{worst / best:.2f} |", flush=True)
 
 
 def main():
@@ -79,7 +79,7 @@ def main():
             at = f"{folder}/{NAME}"
             told("cp", program, at)
             told("perf", "probe", "-q", "-x", at, "--add", f"go=0x{place_of_go(at):x}")
-            print("| routings | best script | lottery | pressure | worst script |\n|---|---:|---:|---:|---:|")
+            print("| routings | best script | lottery | pressure | greedy | worst script |\n|---|---:|---:|---:|---:|---:|")
             for workload in workloads.all_workloads(given.scale):
                 if workload.routes and (not given.only or any(workload.name.startswith(it) for it in given.only)):
                     count(at, workload, folder)

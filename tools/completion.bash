@@ -3,7 +3,7 @@ _eddyql() {
     local word=${COMP_WORDS[COMP_CWORD]} before=${COMP_WORDS[COMP_CWORD - 1]}
     COMPREPLY=()
     case $before in
-        --policy) mapfile -t COMPREPLY < <(compgen -W 'lottery pressure script' -- "$word") ;;
+        --policy) mapfile -t COMPREPLY < <(compgen -W 'lottery pressure greedy script' -- "$word") ;;
         --workers | --seed | --route | --index | --lookup | --demo | --type | --separator | -c) ;;
         *)
             if [[ $word == -* ]]; then

@@ -110,16 +110,18 @@ def seconds_under(words, workload, files, folder, given):
 
 
 def time_policies(workload, files, folder, given):
-    """Seconds under the lottery, under pressure, and under each route script of a workload that has some."""
+    """Seconds under the lottery, pressure, the greedy policy, and each route script of a workload that has some."""
     if not (given.policies and workload.routes and os.access(given.program, os.X_OK)):
         return {}
     scripts = [seconds_under(["--policy", "script", "--route", route], workload, files, folder, given) for route in workload.routes]
     scripts = [it if it is not None else float(given.limit) for it in scripts]
-    lottery, pressure = (seconds_under(["--policy", it], workload, files, folder, given) for it in ("lottery", "pressure"))
-    if lottery is None or pressure is None:
+    names = ("lottery", "pressure", "greedy")
+    took = {it: seconds_under(["--policy", it], workload, files, folder, given) for it in names}
+    if None in took.values():
         return {}
-    say(f"  {workload.name}: lottery {lottery:.2f} s, pressure {pressure:.2f} s, {len(scripts)} route scripts {min(scripts):.2f} to {max(scripts):.2f} s")
-    return {"lottery": lottery, "pressure": pressure, "best": min(scripts), "worst": max(scripts)}
+    policies = ", ".join(f"{it} {took[it]:.2f} s" for it in names)
+    say(f"  {workload.name}: {policies}, {len(scripts)} route scripts {min(scripts):.2f} to {max(scripts):.2f} s")
+    return {**took, "best": min(scripts), "worst": max(scripts)}
 
 
 def exponent(points):
@@ -183,7 +185,7 @@ def words():
     parser.add_argument("--repeat", type=int, default=3, help="runs of each, of which the median counts")
     parser.add_argument("--limit", type=int, default=120, help="processor seconds after which a run is given up")
     parser.add_argument("--policies", action="store_true",
-                        help="measures the lottery, pressure and each route script, too, where the order of joins matters")
+                        help="measures the lottery, pressure, the greedy policy and each route script, too, where the order of joins matters")
     parser.add_argument("--folder", default=None, help="where the tables are made (some 400 MB; default: the system's)")
     parser.add_argument("--raw", metavar="FILE", help="keeps what was measured")
     parser.add_argument("--again", metavar="FILE", help="measures nothing, and writes the table and the plot of what --raw kept")

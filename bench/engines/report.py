@@ -34,12 +34,12 @@ def times(said):
 
 def policies(said):
     """Seconds over those of the best route script."""
-    rows = ["| policy | best script | lottery | pressure | worst script |", "|---|---:|---:|---:|---:|"]
+    rows = ["| policy | best script | lottery | pressure | greedy | worst script |", "|---|---:|---:|---:|---:|---:|"]
     for one in said["workloads"]:
         it = one.get("policies")
         if it:
             best = max(it["best"], 0.01)
-            rest = (f"×{it[name] / best:.2f}" for name in ("lottery", "pressure", "worst"))
+            rest = (f"×{it[name] / best:.2f}" for name in ("lottery", "pressure", "greedy", "worst"))
             rows.append(f"| {one['name']} | {it['best']:.2f} s | " + " | ".join(rest) + " |")
     return "\n".join(rows)
 

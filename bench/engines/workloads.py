@@ -131,6 +131,8 @@ def linked(rng, rows, keys):
 
 
 COLUMNS = ["id int", "a int", "b int", "p int", "q int", "r int", "s int"]
+CLIQUE = ((1, 2), (1, 3), (1, 4), (2, 3), (2, 4), (3, 4))
+CYCLE = ((1, 2), (2, 3), (3, 4), (1, 4))
 LINKS = " AND ".join(f"x{i}.b = x{i + 1}.a" for i in range(1, 6))
 
 
@@ -175,6 +177,118 @@ def drift(rows):
         "a match on the left and each on the right, in the second half the other way round",
         tables, [f"SELECT x1.id, x3.id, x6.id FROM {sources} WHERE {LINKS}"], has_statistics=False,
         routes=routes((), range(5)))
+
+
+def tail(rows, is_reversed=False):
+    def head(rng):
+        p = numbers(rng, rows, 100)
+        return lines(*linked(rng, rows, rows // 2), p, p, p, numbers(rng, rows, 1000))
+
+    def other(rng):
+        return lines(*linked(rng, rows, rows // 2), *(numbers(rng, rows, 100) for _ in range(3)), numbers(rng, rows, 1000))
+
+    tables = [Table(f"t{i}", COLUMNS, head if i == 1 else other, rows) for i in range(1, 7)]
+    sources = [f"t{i} x{i}" for i in range(1, 7)]
+    return Workload(
+        "tail-reversed" if is_reversed else "tail",
+        f"a chain of six tables of {rows:,} rows, each row with two on its right; three conditions at the head are one and keep half, and the "
+        f"tail keeps one in two hundred{'; FROM begins with the tail' if is_reversed else ''}",
+        tables, [f"SELECT x1.id, x6.id FROM {', '.join(sources[::-1] if is_reversed else sources)} "
+                 f"WHERE {LINKS} AND x1.p < 50 AND x1.q < 50 AND x1.r < 50 AND x6.s < 5"],
+        has_statistics=False, routes=[f"s5,s6,s7,s8,b,{','.join(f'v{it}' for it in one)}" for one in ((0, 1, 2, 3, 4), (4, 3, 2, 1, 0), (2, 1, 3, 0, 4))])
+
+
+def drift_of_five(rows):
+    side = max(rows // 5, 10)
+
+    def turned(rng):
+        half = rows // 2
+        seldom = [[k if rng.random() < 0.02 else k + side for k in numbers(rng, it, side)] for it in (half, rows - half)]
+        often = [numbers(rng, it, side) for it in (half, rows - half)]
+        return lines(range(rows), seldom[0] + often[1], often[0] + seldom[1], *(numbers(rng, rows, 100) for _ in range(4)))
+
+    def other(rng):
+        return lines(*linked(rng, side, side), *(numbers(rng, side, 100) for _ in range(4)))
+
+    tables = [Table(f"f{i}", COLUMNS, turned if i == 3 else other, rows if i == 3 else side) for i in range(1, 6)]
+    links = " AND ".join(f"x{i}.b = x{i + 1}.a" for i in range(1, 5))
+    return Workload(
+        f"drift-{rows}", f"a chain of five around a table of {rows:,} rows: in the first half of its file one row in fifty has a match on the "
+        "left and each on the right, in the second half the other way round",
+        tables, [f"SELECT x1.id, x3.id, x5.id FROM {', '.join(f'f{i} x{i}' for i in range(1, 6))} WHERE {links}"],
+        has_statistics=False, routes=routes((), range(4)))
+
+
+def star_by_four(rows):
+    side = max(rows // 500, 100)
+
+    def sales(rng):
+        return lines(range(rows), *(numbers(rng, rows, side) for _ in range(3)), numbers(rng, rows, 1000))
+
+    def days(rng):
+        return lines([it // 4 for it in range(4 * side)], numbers(rng, 4 * side, 10))
+
+    def one_of(kinds):
+        return lambda rng: lines(range(side), numbers(rng, side, kinds))
+
+    return Workload(
+        "star-by-four", f"a star: {rows:,} rows with three tables of {side:,} keys around them; the first table has four rows a key, of which "
+        "nine in ten are selected, the others one row, of which one in ten is",
+        [Table("sales", ["id int", "day int", "shop int", "item int", "amount int"], sales, rows),
+         Table("days", ["day int", "hour int"], days, 4 * side), Table("shops", ["shop int", "region int"], one_of(10), side),
+         Table("items", ["item int", "kind int"], one_of(10), side)],
+        ["SELECT s.id, s.amount FROM sales s JOIN days d ON d.day = s.day JOIN shops h ON h.shop = s.shop "
+         "JOIN items i ON i.item = s.item WHERE d.hour < 9 AND h.region = 5 AND i.kind = 4"],
+        routes=routes((3, 4, 5), range(3)))
+
+
+def knot(name, rows, keys, pairs):
+    """Four tables, of which each of these pairs is joined by a column of its own."""
+    columns = {i: [f"k{a}{b}" for a, b in pairs if i in (a, b)] for i in range(1, 5)}
+
+    def of(width):
+        return lambda rng: lines(range(rows), *(numbers(rng, rows, keys) for _ in range(width)))
+
+    joins = " AND ".join(f"x{a}.k{a}{b} = x{b}.k{a}{b}" for a, b in pairs)
+    return Workload(
+        name, f"a {name} of four tables of {rows:,} rows, each two that are joined by a column with {keys:,} keys",
+        [Table(f"{name}{i}", ["id int", *(f"{it} int" for it in columns[i])], of(len(columns[i])), rows) for i in range(1, 5)],
+        [f"SELECT x1.id, x2.id, x3.id, x4.id FROM {', '.join(f'{name}{i} x{i}' for i in range(1, 5))} WHERE {joins}"])
+
+
+def composite(rows, tables):
+    """Tables in a chain by keys of two columns: the first has few values, the second many."""
+    def other(rng):
+        return lines(range(rows), numbers(rng, rows, 100), numbers(rng, rows, rows // 10), numbers(rng, rows, 100), numbers(rng, rows, rows // 10))
+
+    joins = " AND ".join(f"x{i}.c = x{i + 1}.a AND x{i}.d = x{i + 1}.b" for i in range(1, tables))
+    return Workload(
+        f"composite-{tables}", f"{tables} tables of {rows:,} rows in a chain by a key of two columns: the first alone finds one row in a hundred, "
+        "the second ten rows",
+        [Table(f"w{i}", ["id int", "a int", "b int", "c int", "d int"], other, rows) for i in range(1, tables + 1)],
+        [f"SELECT x1.id, x{tables}.id FROM {', '.join(f'w{i} x{i}' for i in range(1, tables + 1))} WHERE {joins}"],
+        routes=[f"b,{','.join(f'v{2 * i + it}' for i in range(tables - 1))}" for it in (0, 1)])
+
+
+def skewed(rows):
+    """Three tables by keys of which few are frequent (Zipf 1935)."""
+    def of(rng):
+        keys = max(rows // 10, 10)
+        weights = list(itertools.accumulate(1 / it for it in range(1, keys + 1)))
+        return rng.choices(range(keys), cum_weights=weights, k=rows)
+
+    def one(rng):
+        return lines(range(rows), of(rng), numbers(rng, rows, 1000))
+
+    def both(rng):
+        return lines(range(rows), of(rng), numbers(rng, rows, rows))
+
+    return Workload(
+        "skewed", f"a chain of three tables of {rows:,} rows: the keys on the left are skewed, and a selection keeps one row in a thousand there",
+        [Table("near", ["id int", "k int", "p int"], one, rows), Table("middle", ["id int", "k int", "j int"], both, rows),
+         Table("far", ["id int", "j int"], lambda rng: lines(range(rows), numbers(rng, rows, rows)), rows)],
+        ["SELECT x.id, y.id, z.id FROM near x, middle y, far z WHERE x.k = y.k AND y.j = z.j AND x.p = 7"],
+        routes=routes((2,), range(2)))
 
 
 def band(rows):
@@ -253,7 +367,9 @@ def all_workloads(scale):
         return max(int(rows * scale), 10)
 
     return [*(equality(of(rows)) for rows in (10_000, 30_000, 100_000, 300_000, 1_000_000)), long_lists(of(20_000)), star(of(500_000)),
-            chain(of(20_000)), drift(of(20_000)), band(of(30_000)), nulls(of(200_000)), texts(of(750_000)), small(of(1_000)), order(of(900_000))]
+            chain(of(20_000)), drift(of(20_000)), tail(of(100_000)), tail(of(100_000), True), drift_of_five(of(100_000)),
+            drift_of_five(of(300_000)), star_by_four(of(500_000)), knot("clique", of(20_000), of(500), CLIQUE), knot("cycle", of(20_000), of(5_000), CYCLE),
+            composite(of(50_000), 2), composite(of(50_000), 4), skewed(of(20_000)), band(of(30_000)), nulls(of(200_000)), texts(of(750_000)), small(of(1_000)), order(of(900_000))]
 
 
 def write_table(table, path, seed):

@@ -7,7 +7,7 @@ use Rattle.std.specs.Str.Parse.{digits_value}
 use Rattle.std.specs.Result.{is_ok}
 use Rattle.route_policy.specs.ScriptReading.{script_of}
 use Rattle.command_line.specs.declared.command.PolicyName.{PolicyName}
-use Rattle.command_line.specs.declared.command.PolicyName.TheVariants.{Lottery, Pressure, Script}
+use Rattle.command_line.specs.declared.command.PolicyName.TheVariants.{Lottery, Pressure, Greedy, Script}
 
 -- whether a text is 1 to 20 ASCII digits
 abbrev pub is_number : List ℕ → Bool
@@ -36,6 +36,7 @@ abbrev pub policy_named : List ℕ → Option PolicyName
 policy_named text =
     if bytes_eq text (codes "lottery") then Some Lottery
     else if bytes_eq text (codes "pressure") then Some Pressure
+    else if bytes_eq text (codes "greedy") then Some Greedy
     else if bytes_eq text (codes "script") then Some Script
     else None
 

@@ -27,6 +27,8 @@ pub enum PolicyName {
     Lottery,
     /// Back pressure.
     Pressure,
+    /// The greedy policy.
+    Greedy,
     /// The route script of `--route`.
     Script,
 }

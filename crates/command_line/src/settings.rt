@@ -87,6 +87,8 @@ fn policy_named(text: &str) -> Option<PolicyName>
         Some(PolicyName::Lottery)
     } else if text == "pressure" {
         Some(PolicyName::Pressure)
+    } else if text == "greedy" {
+        Some(PolicyName::Greedy)
     } else if text == "script" {
         Some(PolicyName::Script)
     } else {

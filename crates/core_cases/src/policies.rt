@@ -8,7 +8,7 @@ use crate::sample::{Case, cut, digits_of};
 use crate::shown::log_text;
 use case_kit::{block_of_case, catalogue_of_lines};
 use eddy_core::run_one;
-use route_policy::{AnyPolicy, Lottery, Policy, Pressure, RouteScript};
+use route_policy::{AnyPolicy, Greedy, Lottery, Policy, Pressure, RouteScript};
 use sq_expr::Block;
 use sq_value::{NoPredicates, Predicates, Tables};
 use std::alloc::Global;
@@ -28,6 +28,7 @@ const CASES: &str = "\
 26 4 7 0 3 | s s s s | SELECT name, amt FROM cust c, ord o WHERE c.id = o.cid ORDER BY amt DESC | a0,a1
 0 0 0 0 0 | s s s s | SELECT x FROM e | v0
 3 2 3 0 3 | s s s s | SELECT x FROM n | lottery
+14 3 7 0 3 | s s s s | SELECT name, amt FROM cust c, ord o WHERE c.id = o.cid ORDER BY amt DESC | greedy
 21 4 8 0 4 | s s s s | SELECT o.oid FROM ord o, ord p WHERE o.cid = p.cid AND o.oid <= p.oid | v0
 37 5 8 0 4 | s s s s | SELECT o.oid FROM ord o, ord p WHERE o.cid = p.cid AND o.oid <= p.oid | a0,a1
 12 3 6 3 3 | s 1 s s | SELECT name, amt FROM cust c, ord o WHERE c.id = o.cid | v0
@@ -56,7 +57,7 @@ alias 0 row 2 stamp 5
 keys 1:1000000 1:2000000 1:3000000";
 
 /// The policies, as words.
-pub const POLICIES: &str = "lottery pressure v0 a0,a1 b,a1,v0";
+pub const POLICIES: &str = "lottery pressure greedy v0 a0,a1 b,a1,v0";
 
 /// What is said of a run that found something else than the bag, or of a text without a block.
 const OTHER: &str = "another bag";
@@ -71,10 +72,13 @@ struct Counts {
     found: usize,
 }
 
-// A policy by its word: `lottery`, `pressure`, or a route script.
+// A policy by its word: `lottery`, `greedy`, `pressure`, or a route script.
 fn policy_of(word: &str) -> AnyPolicy {
     if word == "lottery" {
         return AnyPolicy::Lottery(Lottery::new(1));
+    }
+    if word == "greedy" {
+        return AnyPolicy::Greedy(Greedy::new());
     }
     match RouteScript::read(word) {
         Ok(script) => AnyPolicy::Script(script),

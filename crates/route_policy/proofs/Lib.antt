@@ -9,3 +9,4 @@ mod ChoiceLaws
 mod TicketLaws
 mod DrawLaws
 mod PressureLaws
+mod GreedyLaws

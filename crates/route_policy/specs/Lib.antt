@@ -1,3 +1,4 @@
+pub mod Cheapest
 pub mod Routes
 pub mod Counts
 pub mod Calls
@@ -6,5 +7,6 @@ pub mod Pressure
 pub mod Script
 pub mod ScriptReading
 pub mod ScriptLaw
+pub mod Greedy
 pub mod AnyPolicy
 pub mod Recorder

@@ -1,6 +1,6 @@
 //! What every policy promises.
 
-ghost use Rattle.std.specs.Prelude.{◌≡◌, ◌<◌, ℕ, List, Option, length};
+ghost use Rattle.std.specs.Prelude.{◌≡◌, ◌<◌, ℕ, Bool, List, Option, length};
 ghost use Rattle.tuple_span.specs.Parts.{Parts};
 ghost use Rattle.tuple_span.specs.declared.route.Route.{Route as TheRoute};
 ghost use Rattle.route_policy.specs.declared.call.PolicyCall.{PolicyCall};
@@ -27,6 +27,12 @@ pub trait Policy: Drop {
     // What it may be once it is told how many tuples came of a route.
     ghost may_become: { Self → TheRoute → ℕ → Self → Type 0 };
 
+    // What it may be once it is told that a row of an alias arrives.
+    ghost may_see: { Self → ℕ → Self → Type 0 };
+
+    // Whether rows are claimed in the order of a survey under it.
+    ghost by_survey: { Self → Bool };
+
     /// Chooses one of the legal routes of a tuple, and answers its place.
     ///
     /// There are 1 to 128, with conjuncts below 48 and aliases below 12.
@@ -44,6 +50,17 @@ pub trait Policy: Drop {
         ensures asked { asked self.new ≡ asked self.old }
         ensures told { Tells (calls self.old) (calls self.new) (returned route count) }
         ensures learnt { may_become self.old route count self.new };
+
+    /// Is told that a row of an alias arrives, where none of this alias has arrived so far. The alias is below 12.
+    fn touched(&mut self, alias: u8)
+        requires known { alias < 12 }
+        ensures asked { asked self.new ≡ asked self.old }
+        ensures calls { calls self.new ≡ calls self.old }
+        ensures seen { may_see self.old alias self.new };
+
+    /// Whether rows are to be claimed in the order of a survey of all rows, where there are many.
+    fn claims_by_survey(&self) -> bool
+        ensures { result ≡ by_survey self.now };
 
     /// How many choices it has made.
     fn asked(&self) -> u64

@@ -1,9 +1,10 @@
 //! Back pressure.
 
-ghost use Rattle.std.specs.Prelude.{◌≡◌, ◌&&◌, ◌||◌, ◌==◌, nat_lt, None, slice_index, ◌+◌, ◌*◌, ◌%◌, ◌^◌, ◌<◌, ◌≤◌, ◌∷◌, ℕ, length, sum, map, IsTrue, All};
+ghost use Rattle.std.specs.Prelude.{◌≡◌, None, slice_index, ◌<◌, length, false};
 ghost use Rattle.route_policy.specs.Pressure.{fresh_pressure, load_of, pressure_choice, after_pressure_choice, after_pressure_return, halved, loaded};
-ghost use Rattle.route_policy.specs.Routes.{AreChoices, IsRoute, is_candidate, route_class, module_of};
+ghost use Rattle.route_policy.specs.Routes.{route_class, module_of};
 
+use crate::cheapest::{Rank, Ranks, cheapest};
 use crate::class::{module_of, route_class};
 use crate::count::{ends_round, next_round};
 use crate::policy::Policy;
@@ -31,51 +32,17 @@ impl Model for Pressure {
     ghost view = { λ s. record { loads = s.loads; round = s.round; asked = s.asked } };
 }
 
-/// What a route is compared by: its class, and then the load of its module.
-#[derive(Clone, Copy)]
-struct Rank {
-    class: u8,
-    load: u64,
-}
+impl Ranks for Pressure {
+    ghost class = { λ _ route. route_class route };
 
-/// The rank of a route.
-fn rank_of(loads: &[u64; 60], route: &Route) -> Rank
-    requires { IsRoute route.now }
-    ensures class { result.class ≡ route_class route.now }
-    ensures load { result.load ≡ load_of loads.now route.now }
-{
-    Rank {
-        class: route_class(route),
-        load: loads[module_of(route)],
-    }
-}
+    ghost cost = { λ s route. load_of s.loads route };
 
-impl Rank {
-    /// Whether it is of a lesser class than another, or of a lesser load in the same class.
-    fn is_before(self, other: Rank) -> bool
-        ensures { result ≡ (nat_lt self.class other.class
-            || ((self.class == other.class) && nat_lt self.load other.load)) }
-    {
-        self.class < other.class || (self.class == other.class && self.load < other.load)
-    }
-}
-
-/// The place of the first route that no other stands before.
-fn least_loaded(loads: &[u64; 60], legal: &[Route]) -> usize
-    requires { AreChoices legal.now }
-    ensures value { result ≡ pressure_choice loads.now legal.now }
-    ensures within { result < length legal.now }
-{
-    let mut best = 0;
-    let mut rank = rank_of(loads, &legal[0]);
-    for place in 1..legal.len() {
-        let other = rank_of(loads, &legal[place]);
-        if other.is_before(rank) {
-            best = place;
-            rank = other;
+    fn rank(&self, route: &Route) -> Rank {
+        Rank {
+            class: route_class(route),
+            cost: self.loads[module_of(route)],
         }
     }
-    best
 }
 
 /// Loads a module with so much more, as far as a u64 counts.
@@ -118,8 +85,12 @@ impl Policy for Pressure {
 
     ghost may_become = { λ s route count now. now ≡ after_pressure_return s route count };
 
+    ghost may_see = { λ s _ now. now ≡ s };
+
+    ghost by_survey = { λ _. false };
+
     fn choose(&mut self, _tuple: &Tuple, legal: &[Route]) -> usize {
-        let choice = least_loaded(&self.loads, legal);
+        let choice = cheapest(self, legal);
         load(&mut self.loads, module_of(&legal[choice]), 1);
         if ends_round(self.round) {
             halve(&mut self.loads);
@@ -131,6 +102,12 @@ impl Policy for Pressure {
 
     fn returned(&mut self, route: Route, count: u64) {
         load(&mut self.loads, module_of(&route), count.min(1000));
+    }
+
+    fn touched(&mut self, _alias: u8) {}
+
+    fn claims_by_survey(&self) -> bool {
+        false
     }
 
     fn asked(&self) -> u64 {

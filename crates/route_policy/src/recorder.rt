@@ -81,6 +81,10 @@ impl<P: Policy> Policy for Recorder<P> {
     ghost may_become = { λ r route count now. P.may_become r.inner route count now.inner
         × (now ≡ recorded r now.inner (returned route count)) };
 
+    ghost may_see = { λ r alias now. P.may_see r.inner alias now.inner × (now ≡ record r { inner = now.inner }) };
+
+    ghost by_survey = { λ r. P.by_survey r.inner };
+
     fn choose(&mut self, tuple: &Tuple, legal: &[Route]) -> usize {
         let choice = self.inner.choose(tuple, legal);
         self.record_call(PolicyCall::Chose {
@@ -94,6 +98,14 @@ impl<P: Policy> Policy for Recorder<P> {
     fn returned(&mut self, route: Route, count: u64) {
         self.inner.returned(route, count);
         self.record_call(PolicyCall::Returned { route, count });
+    }
+
+    fn touched(&mut self, alias: u8) {
+        self.inner.touched(alias);
+    }
+
+    fn claims_by_survey(&self) -> bool {
+        self.inner.claims_by_survey()
     }
 
     fn asked(&self) -> u64 {

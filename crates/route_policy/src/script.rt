@@ -1,6 +1,6 @@
 //! Route scripts.
 
-ghost use Rattle.std.specs.Prelude.{◌≡◌, ◌==◌, ◌<◌, ◌∷◌, length, position, None, IfSome};
+ghost use Rattle.std.specs.Prelude.{◌≡◌, ◌==◌, ◌<◌, ◌∷◌, length, position, None, IfSome, false};
 ghost use Rattle.std.specs.Option.{option_copied};
 ghost use Rattle.route_policy.specs.Script.{is_wanted, script_choice, after_script_choice};
 ghost use Rattle.route_policy.specs.Routes.{AreChoices};
@@ -128,12 +128,22 @@ impl Policy for RouteScript {
 
     ghost may_become = { λ s _ _ now. now ≡ s };
 
+    ghost may_see = { λ s _ now. now ≡ s };
+
+    ghost by_survey = { λ _. false };
+
     fn choose(&mut self, _tuple: &Tuple, legal: &[Route]) -> usize {
         self.asked = self.asked.saturating_add(1);
         follow(self.words.as_slice(), legal)
     }
 
     fn returned(&mut self, _route: Route, _count: u64) {}
+
+    fn touched(&mut self, _alias: u8) {}
+
+    fn claims_by_survey(&self) -> bool {
+        false
+    }
 
     fn asked(&self) -> u64 {
         self.asked

@@ -5,7 +5,7 @@ ghost use Rattle.std.specs.List.{range_with_len};
 ghost use Rattle.run_answers.specs.Settings.{AreSettings, fresh_of};
 
 use command_line::PolicyName;
-use route_policy::{AnyPolicy, Lottery, Pressure, RouteScript};
+use route_policy::{AnyPolicy, Greedy, Lottery, Pressure, RouteScript};
 use sq_value::{Memory, SqText};
 use std::alloc::Global;
 
@@ -33,6 +33,7 @@ impl Settings {
                 AnyPolicy::Lottery(Lottery::new(self.seed.wrapping_add(u64::from(worker))))
             }
             PolicyName::Pressure => AnyPolicy::Pressure(Pressure::new()),
+            PolicyName::Greedy => AnyPolicy::Greedy(Greedy::new()),
             PolicyName::Script => {
                 AnyPolicy::Script(RouteScript::read(self.route.as_str()).unwrap())
             }

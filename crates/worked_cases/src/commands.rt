@@ -31,6 +31,7 @@ q select=f FROM=g
 q n=f --workers 2
 --policy lottery q n=f
 --policy pressure q n=f
+--policy greedy q n=f
 --policy=script q n=f
 --seed 0 q n=f
 --seed 7 q n=f

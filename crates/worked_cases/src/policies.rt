@@ -7,7 +7,7 @@ ghost use Rattle.tuple_span.specs.declared.route.Route.TheVariants as route;
 ghost use Rattle.route_policy.specs.Routes.{AreChoices};
 
 use route_policy::{
-    AnyPolicy, Lottery, Policy, PolicyCall, Pressure, Recorder, RouteScript, ScriptFault,
+    AnyPolicy, Greedy, Lottery, Policy, PolicyCall, Pressure, Recorder, RouteScript, ScriptFault,
 };
 use std::alloc::{AllocError, Global};
 use std::test::Fail;
@@ -134,6 +134,69 @@ fn few_routes(rt: HostRuntime) {
         assert_eq!(rt; lottery.choose(&tuple, &two[..1]), 0);
     }
     assert_eq!(rt; lottery.asked(), 300);
+}
+
+/// Tells a greedy policy what came of the route at a place, and asks it again.
+fn after(greedy: &mut Greedy, legal: &[Route], place: usize, count: u64) -> usize
+    requires choices { AreChoices legal.now }
+    requires within { place < length legal.now }
+    ensures { result < length legal.now }
+{
+    greedy.returned(legal[place], count);
+    greedy.choose(&Tuple::single(0, 0), legal)
+}
+
+#[test]
+fn greedy_arrivals(rt: HostRuntime) {
+    let mut greedy = Greedy::new();
+    let legal = [
+        Route::Select(3),
+        Route::Select(5),
+        Route::Build { alias: 2 },
+    ];
+    assert_eq!(rt; greedy.choose(&Tuple::single(0, 0), &legal), 0);
+    // each selection is expected to keep 64 of 1,024, and then the first one 60
+    assert_eq!(rt; after(&mut greedy, &legal, 0, 1), 1);
+    assert_eq!(rt; after(&mut greedy, &legal, 1, 1), 0);
+    assert_eq!(rt; after(&mut greedy, &legal, 0, 0), 0);
+    // 120 where it kept more than the other; of a build nothing is learnt
+    assert_eq!(rt; after(&mut greedy, &legal, 0, 1), 1);
+    assert_eq!(rt; after(&mut greedy, &legal[2..], 0, 1), 0);
+    assert_eq!(rt; greedy.asked(), 6);
+}
+
+#[test]
+fn greedy_kills_and_probes(rt: HostRuntime) {
+    let tuple = Tuple::single(0, 0);
+    let mut greedy = Greedy::new();
+    let legal = [
+        probe(1, Via::Equal(0)),
+        all(1),
+        probe(4, Via::Equal(7)),
+        all(4),
+    ];
+    assert_eq!(rt; greedy.choose(&tuple, &legal), 1);
+    greedy.returned(all(1), 9);
+    greedy.touched(1);
+    assert_eq!(rt; greedy.choose(&tuple, &legal), 3);
+    greedy.touched(4);
+    // (clock 1) nothing is expected of either
+    assert_eq!(rt; greedy.choose(&tuple, &legal), 0);
+    // (2) 192 - 4 beside 0
+    assert_eq!(rt; after(&mut greedy, &legal, 0, 3), 2);
+    // (3) 192 - 8 beside 320 - 4
+    assert_eq!(rt; after(&mut greedy, &legal, 2, 5), 0);
+    // (4) 372 - 4 beside 320 - 8
+    assert_eq!(rt; after(&mut greedy, &legal, 0, 3), 2);
+    // (5) 372 - 8 beside 620 - 4
+    assert_eq!(rt; after(&mut greedy, &legal, 2, 5), 0);
+    // a candidate alone: the clock stays
+    assert_eq!(rt; greedy.choose(&tuple, &legal[2..]), 0);
+    // (6) 540 - 4 beside 620 - 8
+    assert_eq!(rt; after(&mut greedy, &legal, 0, 3), 0);
+    // (7) nearly 2 ^ 28 - 4 beside 620 - 12
+    assert_eq!(rt; after(&mut greedy, &legal, 0, u64::MAX), 2);
+    assert_eq!(rt; greedy.asked(), 10);
 }
 
 #[test]
