@@ -1,5 +1,5 @@
 pub mod TextLemmas
 mod DecimalLaws
-mod KeyLaws
+pub mod KeyLaws
 mod OrderLaws
 pub mod SampleLaws

@@ -14,7 +14,7 @@ use sq_value::{Tables, Value};
 
 /// The value of a column of an alias in the combination's row of that alias, if it is a row of the
 /// table.
-pub(crate) fn cell_of<'t>(
+pub fn cell_of<'t>(
     block: &Block,
     tables: &'t Tables,
     combo: &Combo,

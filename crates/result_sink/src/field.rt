@@ -53,7 +53,7 @@ fn push_quoted(line: &mut Vec<u8>, field: &[u8]) -> Result<(), Memory>
 }
 
 /// Puts a field behind a line, between quotes where it needs them.
-pub(crate) fn push_field(line: &mut Vec<u8>, field: &[u8]) -> Result<(), Memory>
+pub fn push_field(line: &mut Vec<u8>, field: &[u8]) -> Result<(), Memory>
     ensures { OnOk result (line.new.items ≡ line.old.items ++ field_text default_writer field.now) }
 {
     if needs_quotes(field) {

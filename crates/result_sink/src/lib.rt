@@ -18,7 +18,10 @@ mod spreading;
 mod tests;
 mod writing;
 
+pub use cell::cell_of;
 pub use fault::WriteFault;
-pub use ordering::{in_order, in_order_by, order_law};
+pub use field::push_field;
+pub use ordering::{in_order, in_order_by, order_law, rises};
+pub use record::{finish_record, push_separator};
 pub use spreading::write_answer_by;
-pub use writing::write_answer;
+pub use writing::{put_line, write_answer};

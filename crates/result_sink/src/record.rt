@@ -13,7 +13,7 @@ use sq_expr::{Block, ColumnOf};
 use sq_value::{Memory, Tables};
 
 /// Puts what stands before the field with this index behind a line.
-fn push_separator(line: &mut Vec<u8>, index: usize) -> Result<(), Memory>
+pub fn push_separator(line: &mut Vec<u8>, index: usize) -> Result<(), Memory>
     ensures { OnOk result (line.new.items ≡ line.old.items ++ csv_text.next_sep default_writer index) }
 {
     if index == 0 {
@@ -25,7 +25,7 @@ fn push_separator(line: &mut Vec<u8>, index: usize) -> Result<(), Memory>
 
 /// Ends a record. One that shows no byte gets two quotes, which stand for its empty field.
 #[tactic(auto, using(crate::proofs::TextLemmas::row_ends))]
-fn finish_record(line: &mut Vec<u8>) -> Result<(), Memory>
+pub fn finish_record(line: &mut Vec<u8>) -> Result<(), Memory>
     ensures { OnOk result ((fields : List (List ℕ)) → line.old.items ≡ csv_text.row_body default_writer fields
         → line.new.items ≡ row_text default_writer fields) }
 {

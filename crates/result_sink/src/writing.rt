@@ -18,7 +18,7 @@ use sq_value::Tables;
 use std::alloc::Global;
 
 /// One put of a line.
-pub(crate) fn put_line<O: Sink>(line: &[u8], out: &mut O) -> Result<(), WriteFault>
+pub fn put_line<O: Sink>(line: &[u8], out: &mut O) -> Result<(), WriteFault>
     ensures counts { NeverFalls (O.faults out.old) (O.faults out.new) }
     ensures ok { OnOk result (Adds (O.written out.old) (O.written out.new) line.now) }
     ensures failed { OnErr result (RoseOrFull (O.faults out.old) (O.faults out.new)) }

@@ -3,3 +3,4 @@ pub mod Fits
 pub mod Plain
 pub mod Reading
 pub mod Reach
+pub mod Shapes

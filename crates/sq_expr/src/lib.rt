@@ -8,7 +8,9 @@ mod block;
 mod cond;
 mod evaluation;
 mod operand;
+mod shape;
 mod sum;
 
 pub use block::{Access, AliasUse, Block, Conjunct, OrderKey, OutCol};
 pub use cond::{Arg, Chosen, ColumnOf, Cond, Side, Term};
+pub use shape::{AggKind, Cell, Shape, ShapeOrder, SortOn};

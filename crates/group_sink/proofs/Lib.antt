@@ -1,0 +1,23 @@
+pub mod Results
+pub mod DenseLemmas
+pub mod KindLemmas
+pub mod ViewLemmas
+pub mod PartLemmas
+pub mod PairLists
+pub mod KeyLists
+pub mod SumLemmas
+pub mod PickedLemmas
+pub mod PickLemmas
+pub mod CellLemmas
+pub mod FirstLemmas
+pub mod GroupLemmas
+pub mod NumberLemmas
+pub mod PlaceLemmas
+pub mod LineLemmas
+pub mod RangeRises
+pub mod SortLemmas
+pub mod StableLemmas
+pub mod ReportLemmas
+pub mod ProductLemmas
+pub mod TextsLemmas
+mod WorkedRows

@@ -1,0 +1,12 @@
+pub mod Cells
+pub mod Groups
+pub mod Lines
+pub mod Dense
+pub mod Parts
+pub mod Picked
+pub mod Sums
+pub mod Totals
+pub mod Picks
+pub mod Columns
+pub mod Numbers
+pub mod Texts

@@ -1,0 +1,5 @@
+pub mod KeyLemmas
+pub mod EntryLemmas
+pub mod StepLemmas
+pub mod LawLemmas
+pub mod CallerLemmas

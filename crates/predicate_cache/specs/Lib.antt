@@ -1,0 +1,4 @@
+pub mod Calls
+pub mod Cached
+pub mod Kept
+pub mod Store

@@ -1,0 +1,20 @@
+# Completes the words of eddyql in bash.
+_eddyql() {
+    local word=${COMP_WORDS[COMP_CWORD]} before=${COMP_WORDS[COMP_CWORD - 1]}
+    COMPREPLY=()
+    case $before in
+        --policy) mapfile -t COMPREPLY < <(compgen -W 'lottery pressure script' -- "$word") ;;
+        --workers | --seed | --route | --index | --lookup | --demo | --type | --separator | -c) ;;
+        *)
+            if [[ $word == -* ]]; then
+                mapfile -t COMPREPLY < <(compgen -W '-c -h -v --demo --explain-faults --help --index --lookup --policy --route
+                    --seed --separator --tally --tsv --type --version --workers' -- "$word")
+            else
+                # Behind a table's name and `=`, which bash takes for a word of its own, comes a file.
+                [[ $word != = ]] || word=''
+                mapfile -t COMPREPLY < <(compgen -f -- "$word")
+            fi
+            ;;
+    esac
+}
+complete -o filenames -F _eddyql eddyql

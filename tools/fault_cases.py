@@ -1,0 +1,144 @@
+"""Faults made by hand, each with the words, what standard error has of a run with --explain-faults, and the exit status.
+
+The first line is the program's own note, and the lines after it are the launcher's.
+"""
+
+FILES = {
+    "people.csv": b"id,name,city\n1,Ada,Oslo\n2,Bob,\n",
+    "orders.csv": b"oid,person,total\n7,1,120\n8,2,80\n",
+    "short.csv": b'id,name\n1,"a\nb"\n\n2\n',
+    "marked.csv": b"id,cost:dec2\n1,2.50\n2,2.505\n",
+    "twice.csv": b"id,Name,name\n",
+    "latin.csv": b"id,name:text\n1,J\xf6rg\n",
+    "empty.csv": b"",
+    "bad.csv.gz": b"id,name\n",
+    "marked.sql": b"\xef\xbb\xbfSELECT id FROM people\n",
+    "two.sql": "SELECT id FROM people;\n\n-- \u00e9\u00e9\n\tSELECT p.nmae\n\tFROM people p, orders o\n".encode(),
+}
+
+# (what is wrong, the words, the status, what is said)
+FAULTS = [
+    ("a decimal literal", ["-c", "SELECT oid FROM orders WHERE total < 1.5", "orders.csv"], 3, """\
+script: syntax at byte 38
+  -c:1:39
+    SELECT oid FROM orders WHERE total < 1.5
+                                          ^
+  a script has whole numbers alone: for price < 1.5 write 10 * price < 15
+"""),
+    ("DISTINCT", ["-c", "SELECT DISTINCT city FROM people", "people.csv"], 3, """\
+script: syntax at byte 7
+  -c:1:8
+    SELECT DISTINCT city FROM people
+           ^
+  DISTINCT isn't in the dialect: pipe the answer through awk '!seen[$0]++'
+"""),
+    ("LIKE", ["-c", "SELECT id FROM people WHERE name LIKE 'A%'", "people.csv"], 3, """\
+script: syntax at byte 33
+  -c:1:34
+    SELECT id FROM people WHERE name LIKE 'A%'
+                                     ^
+  LIKE isn't in the dialect: for LIKE 'ab%' write x >= 'ab' AND x < 'ac'
+"""),
+    ("two signs of equality", ["-c", "SELECT id FROM people WHERE id == 1", "people.csv"], 3, """\
+script: syntax at byte 32
+  -c:1:33
+    SELECT id FROM people WHERE id == 1
+                                    ^
+  equality is one sign: =
+"""),
+    ("a curly quote", ["-c", "SELECT id FROM people WHERE name = \u2019Ada\u2019", "people.csv"], 3, """\
+script: syntax at byte 35
+  -c:1:36
+    SELECT id FROM people WHERE name = \u2019Ada\u2019
+                                       ^
+  a curly quote: a text is between straight ones, 'so'
+"""),
+    ("a byte order mark", ["marked.sql", "people.csv"], 3, """\
+script: syntax at byte 0
+  marked.sql:1:1
+    SELECT id FROM people
+    ^
+  the script begins with a byte order mark: save it as UTF-8 without one
+"""),
+    ("a column's name", ["two.sql", "people.csv", "orders.csv"], 3, """\
+statement 2: unknown column at byte 40
+  two.sql:4:9
+    \tSELECT p.nmae
+    \t       ^
+  did you mean name?
+"""),
+    ("a table's name", ["-c", "SELECT id FROM peopel", "people.csv"], 3, """\
+statement 1: unknown table at byte 15
+  -c:1:16
+    SELECT id FROM peopel
+                   ^
+  did you mean people?
+"""),
+    ("an alias", ["-c", "SELECT x.id FROM people p", "people.csv"], 3, """\
+statement 1: unknown alias at byte 7
+  -c:1:8
+    SELECT x.id FROM people p
+           ^
+  there is p
+"""),
+    ("a name that two tables have", ["-c", "SELECT id FROM people a, people b", "people.csv"], 3, """\
+statement 1: ambiguous column at byte 7
+  -c:1:8
+    SELECT id FROM people a, people b
+           ^
+  write a.id or b.id
+"""),
+    ("a text beside a number", ["-c", "SELECT id FROM people WHERE name = 1", "people.csv"], 3, """\
+statement 1: type mismatch at byte 28
+  -c:1:29
+    SELECT id FROM people WHERE name = 1
+                                ^
+  numbers are compared with numbers, texts with texts; --type T.C=dec2 reads a column as numbers
+"""),
+    ("a short record", ["-c", "SELECT id FROM short", "short.csv"], 4, """\
+table short: record 2 is unequal
+  short.csv:5: 1 field, and the heading has 2: '2'
+"""),
+    ("a number with too many digits", ["-c", "SELECT id FROM marked", "marked.csv"], 4, """\
+table marked: record 2 field 2 is not a decimal
+  marked.csv:3: column cost:dec2 is '2.505'
+"""),
+    ("two columns of one name", ["-c", "SELECT id FROM twice", "twice.csv"], 4, """\
+table twice: field 3 repeats a column
+  twice.csv:1: column name is there twice; names are compared without regard to case
+"""),
+    ("a file that isn't UTF-8", ["-c", "SELECT id FROM latin", "latin.csv"], 4, """\
+table latin: record 1 field 2 is not UTF-8
+  latin.csv:2: column name:text is 'J\ufffdrg'
+  the file isn't UTF-8: iconv -f latin1 -t utf-8 FILE
+"""),
+    ("an empty file", ["-c", "SELECT id FROM empty", "empty.csv"], 4, """\
+table empty: no heading
+  empty.csv: the file is empty
+"""),
+    ("a look-up's column", ["--index", "people.ID,orders.persn", "-c", "SELECT id FROM people", "people.csv", "orders.csv"], 4, """\
+access 2: no such column
+  orders.persn of orders.csv
+  did you mean person?
+"""),
+    ("an alias that nothing reaches", ["--lookup", "orders.person", "-c", "SELECT id FROM people p, orders o WHERE p.id < o.person", "people.csv", "orders.csv"], 3, """\
+statement 1: alias 2 is unreachable
+  o has a look-up alone, and no equality gives it keys: take --index in place of --lookup
+"""),
+    ("a file that isn't there", ["-c", "SELECT id FROM people", "p=nosuch.csv"], 5, """\
+read fault: table p
+  nosuch.csv: No such file or directory
+"""),
+    ("a file that isn't packed", ["-c", "SELECT id FROM bad", "bad.csv.gz"], 5, """\
+read fault: table bad
+  bad.csv.gz: Not a gzipped file (b'id')
+"""),
+    ("an option", ["--polcy", "pressure", "two.sql", "people.csv"], 2, """\
+usage: eddyql [OPTIONS] SCRIPT NAME=FILE.. or eddyql [OPTIONS] --demo ROWS
+  there is no option --polcy; did you mean --policy? eddyql --help has the words
+"""),
+    ("no table", ["two.sql"], 2, """\
+usage: eddyql [OPTIONS] SCRIPT NAME=FILE.. or eddyql [OPTIONS] --demo ROWS
+  a script and at least one table are wanted; eddyql --help has the words
+"""),
+]
