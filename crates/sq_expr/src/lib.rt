@@ -12,3 +12,4 @@ mod sum;
 
 pub use block::{Access, AliasUse, Block, Conjunct, OrderKey, OutCol};
 pub use cond::{Arg, Chosen, ColumnOf, Cond, Side, Term};
+pub use operand::argument;
