@@ -2,4 +2,5 @@ pub mod KeyLemmas
 pub mod EntryLemmas
 pub mod StepLemmas
 pub mod LawLemmas
+pub mod LatestLemmas
 pub mod CallerLemmas

@@ -1,4 +1,5 @@
 pub mod Calls
 pub mod Cached
 pub mod Kept
+pub mod Latest
 pub mod Store
