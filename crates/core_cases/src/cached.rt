@@ -7,12 +7,11 @@ ghost use Rattle.sq_expr.specs.Reach.{IsReachable};
 use crate::compared::is_bag;
 use crate::policies::policy_of;
 use crate::sample::{Case, cut};
-use case_kit::{block_of_case, catalogue_of_lines};
+use case_kit::{Counted, block_of_case, catalogue_of_lines};
 use eddy_core::run_one_cached;
 use sq_expr::Block;
-use sq_value::{ColType, Kinds, Predicates, Tables, Truth, Value};
+use sq_value::{Predicates, Tables};
 use std::alloc::Global;
-use std::sync::atomic::{AtomicU64, Ordering};
 use std::test::Fail;
 
 /// The tables.
@@ -46,40 +45,6 @@ const CASES: &str = "\
 /// What is said of a run that found something else than the bag, or of a text without a block.
 const OTHER: &str = "another bag";
 
-// A predicate of two integers with any name, which counts its calls.
-#[derive(Drop)]
-struct Counted {
-    calls: AtomicU64,
-}
-
-impl Predicates for Counted {
-    ghost use Rattle.std.specs.Prelude.{Some};
-    ghost use Rattle.sq_value.specs.declared.value.Truth.TheVariants as truth;
-    ghost use Rattle.sq_value.specs.declared.value.ColType.TheVariants as kind;
-
-    ghost gives = { λ number x y. truth.True };
-
-    ghost kinds_of = { λ s number. Some (record { first = kind.Integer; second = kind.Integer }) };
-
-    ghost number_of = { λ s name. Some 0 };
-
-    fn find(&self, _name: &str) -> Option<u8> {
-        Some(0)
-    }
-
-    fn kinds(&self, _number: u8) -> Kinds {
-        Kinds {
-            first: ColType::Integer,
-            second: ColType::Integer,
-        }
-    }
-
-    fn call(&self, _number: u8, _x: &Value, _y: &Value) -> Truth {
-        self.calls.fetch_add(1, Ordering::SeqCst);
-        Truth::True
-    }
-}
-
 // What is said of a run with a cache of this room.
 fn said_of(
     alloc: Global,
@@ -95,7 +60,7 @@ fn said_of(
 {
     let mut policy = policy_of(word);
     let cached = run_one_cached(alloc, block, tables, &mut policy, functions, room)?;
-    let called = functions.calls.load(Ordering::SeqCst);
+    let called = functions.calls();
     let (hits, answered) = (cached.hits, cached.answered);
     let (combos, built) = (answered.combos.as_slice(), answered.built.as_slice());
     if !is_bag(alloc, block, tables, functions, combos, built)? {
@@ -108,9 +73,7 @@ fn said_of(
 // What is said of a case.
 fn case_said(alloc: Global, case: &Case<'_>) -> Result<String, Fail> {
     let catalogue = catalogue_of_lines(alloc, TABLES)?;
-    let functions = Counted {
-        calls: AtomicU64::new(0),
-    };
+    let functions = Counted::new();
     let (word, room) = case.how.split_once(" ").unwrap_or(("", ""));
     let room = room.parse::<u32>().unwrap_or(0).min(4096);
     match block_of_case(alloc, &catalogue, case.ways, case.text, &functions)? {

@@ -26,8 +26,8 @@ fn policy_of(number: usize) -> AnyPolicy {
     }
 }
 
-// Policies for so many workers.
-fn policies_of(alloc: Global, workers: usize) -> Result<Vec<AnyPolicy>, Fail>
+/// Policies for so many workers.
+pub fn policies_of(alloc: Global, workers: usize) -> Result<Vec<AnyPolicy>, Fail>
     ensures { IfOk result (λ p. length p.items ≡ workers) }
 {
     let mut policies = Vec::new(alloc);
