@@ -1,5 +1,5 @@
-//! Runs of workers with a cache of predicates' answers each: how often kept ones were given, and how often the predicates
-//! were called.
+//! Runs of workers with a cache of predicates' answers each: how often kept ones were given, and how often the
+//! predicates were called.
 
 ghost use Rattle.std.specs.Prelude.{◌<◌, ◌≤◌};
 ghost use Rattle.sq_expr.specs.Fits.{IsFit};
@@ -16,9 +16,9 @@ use std::sync::Wait;
 use std::test::Fail;
 use std::thread::Threads;
 
-/// The cases. First what is wanted: how many combinations are found, the hits and the calls of the predicates together, and
-/// whether there were hits. Then a bar, the ways of `k` and `z`, a bar, the statement, a bar, and the room of each cache.
-/// Each name is that of one predicate, which is True of all.
+/// The cases. First what is wanted: how many combinations are found, the hits and the calls of the predicates together,
+/// and whether there were hits. Then a bar, the ways of `k` and `z`, a bar, the statement, a bar, and the room of each
+/// cache. Each name is that of one predicate, which is True of all.
 ///
 /// Each of the 300 rows of `z` is put to each of its conjuncts once, and each time a kept answer is given or the
 /// predicate called, whichever worker does it. How often tuples of joins are tested depends on the policies.
