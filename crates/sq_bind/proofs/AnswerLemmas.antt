@@ -120,6 +120,8 @@ numbered at number =
     else if number == 10 then fault.TooManyConjuncts at
     else if number == 11 then fault.TooManyTerms at
     else if number == 12 then fault.Unreachable at
+    else if number == 14 then fault.NotGrouped at
+    else if number == 15 then fault.NotSelected at
     else fault.Memory
 
 numbered_is : (f : BindFault) → numbered (place_of f) (fault_number f) ≡ f
@@ -136,6 +138,8 @@ numbered_is (fault.TooManyAliases at) = refl
 numbered_is (fault.TooManyConjuncts at) = refl
 numbered_is (fault.TooManyTerms at) = refl
 numbered_is (fault.Unreachable alias) = refl
+numbered_is (fault.NotGrouped at) = refl
+numbered_is (fault.NotSelected at) = refl
 numbered_is fault.Memory = refl
 
 same_fault : (f g : BindFault) → place_of f ≡ place_of g → fault_number f ≡ fault_number g → f ≡ g
