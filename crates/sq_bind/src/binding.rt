@@ -17,7 +17,7 @@ ghost use Rattle.sq_bind.specs.Statement as spec;
 ghost use Rattle.sq_bind.specs.Statement.{faults_among, plain_block};
 ghost use Rattle.sq_bind.specs.Given.{IsParsed, AreAccesses, over};
 ghost use Rattle.sq_bind.specs.Answer.{IsBound, IsBoundShape, IsBindFault, OneFault, NoneBeside, NoneBesideShape, SomeAnswer, SomeShape};
-ghost use Rattle.sq_bind.specs.Told.{IsAnswer};
+ghost use Rattle.sq_bind.specs.Told.{IsAnswer, IsPlainOf};
 ghost use Rattle.sq_bind.specs.declared.fault.BindFault.{BindFault};
 ghost use Rattle.sq_bind.specs.declared.shaped.Shaped.{Shaped};
 
@@ -167,6 +167,23 @@ fn answer<F: Predicates>(
     reached_shape(alloc, shaped)
 }
 
+fn plain_or_memory(alloc: Global, shaped: Shaped) -> Result<Block, BindFault>
+    ensures { MatchResult result (λ block. block ≡ plain_block shaped.block shaped.shape) (λ f. f ≡ BindFault.Memory) }
+{
+    let block = plain_of(alloc, shaped)?;
+    Ok(block)
+}
+
+// The block of a statement that isn't shaped, or its fault.
+fn plain_answer(alloc: Global, made: Result<Shaped, BindFault>) -> Result<Block, BindFault>
+    ensures { IsPlainOf made result }
+{
+    match made {
+        Ok(shaped) => plain_or_memory(alloc, shaped),
+        Err(fault) => Err(fault),
+    }
+}
+
 /// The block that a statement of a script stands for, where it has no fault: its aliases with their
 /// tables and accesses, its conjuncts, its output columns and its sort keys. The statement has no set
 /// function, GROUP BY, DISTINCT or LIMIT: [`bind_shape`] takes those. The table with the
@@ -209,9 +226,8 @@ pub fn bind<F: Predicates>(
         (f : BindFault) → IsBindFault (over catalogue.now accesses.now calls) statement.now f
         → MatchResult result (λ block. ⊥) (λ found. (found ≡ f) ⊎ (found ≡ BindFault.Memory)) }
 {
-    let shaped = answer(alloc, statement, catalogue, accesses, functions)?;
-    let block = plain_of(alloc, shaped)?;
-    Ok(block)
+    let made = answer(alloc, statement, catalogue, accesses, functions);
+    plain_answer(alloc, made)
 }
 
 /// What a statement with a set function, GROUP BY, DISTINCT or LIMIT stands for, where it has no fault: the

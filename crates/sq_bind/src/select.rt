@@ -17,7 +17,7 @@ use sq_value::{Column, Memory, SqText};
 use std::alloc::Global;
 
 // Puts columns of an alias behind the others, under their own names.
-#[tactic(auto, using(crate::proofs::SelectLemmas::next_out, crate::proofs::SelectLemmas::all_out))]
+#[tactic(auto, using(crate::proofs::SelectLemmas::next_cell, crate::proofs::SelectLemmas::all_cells))]
 fn push_columns(
     alloc: Global,
     alias: u8,
