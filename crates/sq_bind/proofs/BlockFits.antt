@@ -476,8 +476,8 @@ module _ (scope : Scope) (s : Statement) where
   first_there (x ∷ more) any h some = by (columns_at scope.tables (table_number scope x)) h.0 some.0
     where
       by : (cs : List Column) → ColumnsHave (HasKindIn scope uses) 0 0 cs → 0 < length cs → IsThere' first_column
-      by [] have some = absurd (omega (arith, some))
-      by (c ∷ cs) have some = some_is (kind_in scope.tables uses first_column) c.kind have.0.1
+      by [] hs some = absurd (omega (arith, some))
+      by (c ∷ cs) hs some = some_is (kind_in scope.tables uses first_column) c.kind hs.0.1
 
   pub order_there : (h : Holds) (order : List OrderItem) (by : Sorting) → flat_map (key_faults aliases by) order ≡ []
       → Each (λ (k : ShapeOrder). OnThere scope uses aliases h by.cells k.on) (map (key_of aliases by.cells) order)

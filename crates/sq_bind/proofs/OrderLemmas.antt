@@ -37,9 +37,6 @@ known_before name first m true [] = refl
 known_before name first m false [] = refl
 known_before name first m one (c ∷ cells) = by (has_name name c) (λ k. known_before name (first + 1) m k cells)
   where
-    rest : Bool
-    rest = list_all (is_at m.agg m.column) (filter (has_name name) cells)
-
     by : (b : Bool)
         → ((k : Bool) → meant_from name (first + 1) (Some (marked m k)) cells
         ≡ Some (marked m (k && list_all (is_at m.agg m.column) (filter (has_name name) cells))))

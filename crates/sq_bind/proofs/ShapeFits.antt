@@ -71,9 +71,6 @@ grouped_settled : (aliases : List Alias) (s : Statement) → grouped_faults alia
 unfolding grouped_faults
 grouped_settled aliases s e is = by (is_grouped s) is e
   where
-    keys : List ColumnOf
-    keys = grouping_of aliases s.groups
-
     by : (b : Bool) → b ≡ true → (if b then ungrouped_faults aliases (grouping_of aliases s.groups) (star_place s.sources) s.items else []) ≡ []
         → Each (IsSettled (grouping_of aliases s.groups)) (cells_of aliases s.items)
     by true t e = selected_settled aliases (grouping_of aliases s.groups) (star_place s.sources) s.items e

@@ -1,8 +1,7 @@
 -- What a statement binds to: the block with what is made of its matches, or the first fault of the first round that has
 -- one.
 use Rattle.std.specs.Prelude.{ℕ, ◌+◌, Bool, true, ◌&&◌, ◌||◌, not, ◌==◌, ◌^◌, if◌then◌else◌, List, [], ◌∷◌, ◌++◌, map, filter, take, Option, Some, None, is_some, Result, Ok, Err, unwrap_or, slice_get, slice_index_or, sum, codes}
-use Rattle.core.specs.List.{position_or_len}
-use Rattle.std.specs.List.{flat_map, list_any, list_all, range_with_len}
+use Rattle.std.specs.List.{flat_map, list_any, list_all, position_or_len, range_with_len}
 use Rattle.std.specs.Option.{option_map_or}
 use Rattle.sq_value.specs.Name.{is_same_name}
 use Rattle.sq_value.specs.Relation.{Relation}

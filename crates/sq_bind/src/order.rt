@@ -110,7 +110,7 @@ fn is_shown(column: ColumnOf, cells: &[Cell]) -> bool
 
 // A column that no cell names.
 fn sorted_fault(by: Sortable<'_>, at: u32, column: ColumnOf) -> Option<BindFault>
-    ensures { result ≡ first_of (spec.sorted_faults (found.sorting by) at column) }
+    ensures { result ≡ first_of (spec.sorted_faults (found.sorting by.entry) at column) }
 {
     if by.distinct && !is_shown(column, by.cells) {
         Some(BindFault::NotSelected { at })
@@ -122,7 +122,7 @@ fn sorted_fault(by: Sortable<'_>, at: u32, column: ColumnOf) -> Option<BindFault
 }
 
 fn order_fault(by: Sortable<'_>, at: u32, on: Result<SortOn, BindFault>) -> Option<BindFault>
-    ensures { result ≡ first_of (spec.order_faults (found.sorting by) at on) }
+    ensures { result ≡ first_of (spec.order_faults (found.sorting by.entry) at on) }
 {
     match on {
         Ok(SortOn::Cell(_)) => None,
@@ -139,7 +139,8 @@ fn key_fault(
     key: &OrderItem,
 ) -> Result<Option<BindFault>, Memory>
     requires { HoldsCells names.now.entries by.cells.now }
-    ensures { IfOk result (λ fault. fault ≡ first_of (spec.key_faults (map seen aliases.now) (found.sorting by) key.now)) }
+    ensures { IfOk result (λ fault.
+        fault ≡ first_of (spec.key_faults (map seen aliases.now) (found.sorting by.entry) key.now)) }
 {
     let name = key.column.column.text.as_str().to_ascii_lowercase(alloc)?;
     let on = order_on(aliases, names, &key.column, name.as_str());
@@ -159,7 +160,7 @@ pub fn keys_fault(
 ) -> Result<Option<BindFault>, Memory>
     requires { HoldsCells names.now.entries by.cells.now }
     ensures { IfOk result (λ fault.
-        fault ≡ first_of (flat_map (spec.key_faults (map seen aliases.now) (found.sorting by)) order.now)) }
+        fault ≡ first_of (flat_map (spec.key_faults (map seen aliases.now) (found.sorting by.entry)) order.now)) }
 {
     let mut fault = None;
     for key in order {

@@ -1,5 +1,6 @@
 //! Statements with set functions, GROUP BY, DISTINCT and LIMIT, worked out by hand: their faults, and their shapes. A
-//! case is what is wanted, a bar, and a text. `shape` and the number of conjuncts stands for a statement without a fault.
+//! case is what is wanted, a bar, and a text. What is wanted of a statement without a fault is `shape` and the number
+//! of its conjuncts.
 
 use crate::statements::Group;
 

@@ -30,7 +30,7 @@ returns g c =
     let extra = c.extra_fault.ensures placed c.requires.places in
     let late = c.sooner.ensures ∙ two_firsts (grouped_faults aliases s) keys c.in_ok-grouped.grouped c.in_ok-order.order c.in_ok-grouped.ensures order in
     let shape = c.sooner-shape.ensures ∙ two_firsts groups _ c.groups_fault-groups.result c.sooner.result by late in
-    let last = c.sooner-3.ensures ∙ two_firsts (conjunct_faults placed) _ c.extra_fault.result c.sooner-shape.result extra shape in
+    let last = c.sooner-2.ensures ∙ two_firsts (conjunct_faults placed) _ c.extra_fault.result c.sooner-shape.result extra shape in
     let more = c.sooner-rest.ensures
-    ∙ two_firsts conditions _ c.parts_fault-conditions.result c.sooner-3.result c.parts_fault-conditions.ensures last in
-    c.sooner-5.ensures ∙ two_firsts shown _ c.selected_fault-selected.result c.sooner-rest.result c.selected_fault-selected.ensures more
+    ∙ two_firsts conditions _ c.parts_fault-conditions.result c.sooner-2.result c.parts_fault-conditions.ensures last in
+    c.sooner-3.ensures ∙ two_firsts shown _ c.selected_fault-selected.result c.sooner-rest.result c.selected_fault-selected.ensures more
