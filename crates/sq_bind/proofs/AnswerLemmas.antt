@@ -366,6 +366,8 @@ module _ (scope : Scope) (s : Statement) where
       by : ((block : Block) × IsBound scope s block) ⊎ ((f : BindFault) × IsBindFault scope s f)
           → ((shaped : Shaped) × IsBoundShape scope s shaped) ⊎ ((f : BindFault) × IsBindFault scope s f)
       by (inl (block, h)) =
-          inl (shaped_of scope s,
-          bound_shape (shaped_of scope s) (record { from = h.from; rest = h.rest; is = refl; reachable = subst IsReachable h.is h.reachable }))
+          inl (
+            shaped_of scope s,
+            bound_shape (shaped_of scope s) (record { from = h.from; rest = h.rest; is = refl; reachable = subst IsReachable h.is h.reachable }),
+          )
       by (inr told) = inr told

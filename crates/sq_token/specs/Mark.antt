@@ -93,10 +93,11 @@ is_comparison m = is k.Equal m || is k.NotEqual m || is k.Less m || is k.LessOrE
 abbrev pub is_truth_word : Mark → Bool
 is_truth_word m = is k.True m || is k.False m || is k.Unknown m
 
--- ASC or DESC, and FIRST or LAST
+-- ALL or DISTINCT: SQL's set quantifier
 abbrev pub is_extent : Mark → Bool
 is_extent m = is k.All m || is k.Distinct m
 
+-- ASC or DESC, and FIRST or LAST
 abbrev pub is_way : Mark → Bool
 is_way m = is k.Asc m || is k.Desc m
 
