@@ -1,5 +1,5 @@
 -- Words over files have one outcome.
-use Rattle.std.proofs.Common.{◌≡◌, ℕ, ◌+◌, ◌%◌, ◌<◌, List, [], ◌∷◌, length, get_or, Result, Ok, Err, refl, sym, ◌∙◌, ap, subst, ◌⊎◌, inl, inr}
+use Rattle.std.proofs.Common.{◌≡◌, ℕ, ◌+◌, ◌%◌, ◌<◌, List, [], ◌∷◌, length, get_or, Option, Some, None, Result, Ok, Err, refl, sym, ◌∙◌, ap, subst, ◌⊎◌, inl, inr}
 use Rattle.std.specs.Prelude.{All}
 use Rattle.std.proofs.lemmas.List.Elements.{All-head, All-tail, Contains-get_or}
 use Rattle.outside.specs.Files.{File}
@@ -9,6 +9,7 @@ use Rattle.sq_parse.proofs.OneReading.{one_reading, same_reading}
 use Rattle.sq_parse.specs.declared.tree.Script.{Script}
 use Rattle.sq_parse.specs.declared.tree.Statement.{Statement}
 use Rattle.sq_expr.specs.declared.block.Block.{Block}
+use Rattle.sq_expr.specs.declared.shape.Shape.{Shape}
 use Rattle.run_base.specs.declared.bound.Bound.{Bound}
 use Rattle.catalogue.specs.Named.{NamedTables}
 use Rattle.sq_bind.specs.Answer as binding
@@ -26,7 +27,7 @@ use Rattle.run_plan.specs.DemoScript.{demo_script}
 use Rattle.run_plan.specs.Accesses.{accesses_read}
 use Rattle.run_plan.specs.Faults.{script_status, bind_status}
 use Rattle.run_plan.specs.Files.{file_read, catalogue_read}
-use Rattle.run_plan.specs.Prepared.{IsSpelled, IsScript, IsBoundTo, AreBoundTo, IsBoundPlan, IsPlan, IsDemoPlan, Predicates}
+use Rattle.run_plan.specs.Prepared.{IsSpelled, IsScript, IsBoundAs, IsBoundTo, AreBoundTo, IsBoundPlan, IsPlan, IsDemoPlan, Predicates}
 use Rattle.run_plan.specs.Steps.{Behind, AndThen, ComesTo, or_refuse, or_fault}
 use Rattle.run_plan.specs.declared.status.FileOf.TheVariants as file
 use Rattle.run_plan.specs.declared.status.Status.{Status}
@@ -53,14 +54,27 @@ one_then first more one each x y h k =
 one_spelled : (text : List ℕ) → IsOne (IsSpelled text)
 one_spelled text x y h k = h.2 ∙ ap (or_fault script_status) (same_reading text h.0 k.0 h.1 k.1) ∙ sym k.2
 
--- a bound statement is told by its block
-same_bound : (b c : Bound) → b.block ≡ c.block → b ≡ c
-same_bound b c e = ap (λ (x : Block). let bound : Bound = record { block = x } in bound) e
+-- a bound statement is told by its block and its shape
+bound_of : Block → Option Shape → Bound
+bound_of block shape = record { block = block; shape = shape }
+
+-- a statement is bound to one block and one shape, or none
+one_as : (scope : Scope) (s : Statement) (x y : Block) (u v : Option Shape) → IsBoundAs scope s x u → IsBoundAs scope s y v
+    → bound_of x u ≡ bound_of y v
+one_as scope s x y None None h k = ap (λ (b : Block). bound_of b None) (h.is ∙ sym k.is)
+one_as scope s x y None (Some v) h k = absurd k
+one_as scope s x y (Some u) v h k = absurd h
+
+-- and to nothing beside a fault
+none_as : (scope : Scope) (s : Statement) (x : Block) (u : Option Shape) (f : BindFault) → IsBoundAs scope s x u → binding.IsBindFault scope s f → ⊥
+none_as scope s x None f h k = no_fault scope s x f h k
+none_as scope s x (Some u) f h k = h
 
 one_block : (scope : Scope) (number : ℕ) (s : Statement) → IsOne (IsBoundTo scope number s)
-one_block scope number s (Ok b) (Ok c) h k = ap Ok (same_bound b c (h.is ∙ sym k.is))
-one_block scope number s (Ok b) (Err r) h k = absurd (no_fault scope s b.block k.0 h k.1)
-one_block scope number s (Err r) (Ok c) h k = absurd (no_fault scope s c.block h.0 k h.1)
+unfolding bound_of
+one_block scope number s (Ok b) (Ok c) h k = ap Ok (one_as scope s b.block c.block b.shape c.shape h k)
+one_block scope number s (Ok b) (Err r) h k = absurd (none_as scope s b.block b.shape k.0 h k.1)
+one_block scope number s (Err r) (Ok c) h k = absurd (none_as scope s c.block c.shape h.0 k h.1)
 one_block scope number s (Err r) (Err t) h k = ap Err (h.2 ∙ ap (bind_status number) (one_fault scope s h.0 k.0 h.1 k.1) ∙ sym k.2)
 
 one_blocks : (scope : Scope) (number : ℕ) (ss : List Statement) → IsOne (AreBoundTo scope number ss)
@@ -141,7 +155,7 @@ some_block : (scope : Scope) (number : ℕ) (s : Statement) → 0 < length s.sou
 some_block scope number s some = by (some_answer scope s some)
   where
     by : ((block : Block) × binding.IsBound scope s block) ⊎ ((x : BindFault) × binding.IsBindFault scope s x) → Comes (IsBoundTo scope number s)
-    by (inl h) = (Ok (record { block = h.0 }), h.1)
+    by (inl h) = (Ok (record { block = h.0; shape = None }), h.1)
     by (inr h) = (Err (bind_status number h.0), (h.0, h.1, refl))
 
 -- a statement has sources

@@ -35,7 +35,8 @@ line_of_counts number aliases log hops looked =
     codes "query " ++ decimal number ++ codes ": built " ++ built_text aliases log ++ codes " hops " ++ decimal hops
     ++ codes " looked " ++ decimal looked ++ 10 ∷ []
 
--- a line tells the counts of a run of a statement, whose combinations, put in order, are the answer that is written
+-- a line tells the counts of a run of a statement, whose combinations, put in order, are the answer that is written, or
+-- whose lines are
 pub record IsTally (gives : ℕ → Value → Value → Truth) (number : ℕ) (item : Item) (line : List ℕ) : Type 0 where
   pub combos : List Combo
   pub log : List Built

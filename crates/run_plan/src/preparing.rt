@@ -79,7 +79,7 @@ fn bind_one<P: Predicates>(
         Refuses (spec.IsBoundTo (over catalogue.now accesses.now calls) number statement.now (Err s)) s) }
 {
     match bind(alloc, statement, catalogue, accesses, functions) {
-        Ok(block) => Ok(Bound { block }),
+        Ok(block) => Ok(Bound { block, shape: None }),
         Err(fault) => Err(bind_status(number, fault)),
     }
 }
