@@ -17,6 +17,7 @@ use Rattle.eddy_core.specs.Answer.{as_mark}
 use Rattle.eddy_core.specs.declared.answered.LookedUp.{LookedUp}
 use Rattle.result_sink.specs.Ready.{AddsPart, rows_of_combo}
 use Rattle.group_sink.specs.Lines.{lines_text}
+use Rattle.group_sink.specs.declared.line.Line.{Line}
 use Rattle.group_sink.specs.declared.line.Out.{Out}
 use Rattle.result_sink.proofs.TextLemmas.{AddsPart-after}
 use Rattle.outside.specs.Faults.{NeverFalls}
@@ -111,6 +112,12 @@ pub put_rows : (block : Block) (tables : List Relation) (xs ys : List Combo) (li
     → PutBoth (answer_text block tables (map (rows_of_combo block) ys)) line old new r
 put_rows block tables xs ys line old new r e h =
     subst (λ (cs : List Combo). PutBoth (answer_text block tables (map (rows_of_combo block) cs)) line old new r) e h
+
+-- the text of equal lines
+pub put_lines : (shape : Shape) (xs ys : List Line) (line : Option (List ℕ)) (old new : Outputs) (r : Result (Unit {0}) Stop) → xs ≡ ys
+    → PutBoth (lines_text shape (map (λ (l : Line). l.cells) xs)) line old new r → PutBoth (lines_text shape (map (λ (l : Line). l.cells) ys)) line old new r
+put_lines shape xs ys line old new r e h =
+    subst (λ (ls : List Line). PutBoth (lines_text shape (map (λ (l : Line). l.cells) ls)) line old new r) e h
 
 -- a line that is right, whether or not it was put
 told_anyway : {P : Type 0} (r : Result (Unit {0}) Stop) → P → OnTold r P
