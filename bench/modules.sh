@@ -7,7 +7,7 @@ top=$(dirname "$here")
 work=$(mktemp -d)
 trap 'rm -rf "$work"' EXIT
 low='sq_value sq_token sq_parse sq_expr catalogue table_csv sq_bind bag_meaning tuple_span eddy_meaning stem_index routing_rules
-select_module stem_module case_kit'
+predicate_cache select_module stem_module case_kit'
 bench=$work/crates/modules_bench
 mkdir -p "$bench/src" "$bench/specs" "$bench/proofs"
 for crate in $low; do

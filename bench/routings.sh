@@ -19,13 +19,13 @@ if [ -z "$ROUTINGS" ]; then
     crate="$work/crates/routings_bench"
     mkdir -p "$crate/src" "$crate/specs"
     low='sq_value outside catalogue table_csv sq_token sq_parse stem_index sq_expr sq_bind bag_meaning tuple_span eddy_meaning eddy_runs
-        routing_rules select_module scan_source index_source stem_module route_policy eddy_core'
+        routing_rules predicate_cache select_module scan_source index_source eddy_acts claim_order stem_module route_policy eddy_core'
     for name in $low; do
         cp -r "$top/crates/$name" "$work/crates/"
         grep "^$name:" "$top/crates.txt" >> "$work/crates.txt"
     done
     cp "$top/HANDLES" "$work/"
-    echo "routings_bench:" $low sqlite_items csv arrayvec indexmap rand_core rand_pcg anyhow >> "$work/crates.txt"
+    echo "routings_bench:" $low lru sqlite_items csv arrayvec indexmap rand_core rand_pcg anyhow >> "$work/crates.txt"
     cp "$here/routings.txt" "$crate/src/main.rt"
     cp -r "$here/routings.proofs" "$crate/proofs"
     find "$crate/proofs" -name '*.txt' | while read -r file; do mv "$file" "${file%.txt}.antt"; done

@@ -6,10 +6,17 @@
 //! - Each output column: its alias, a point, the column's number, and the name.
 //! - Each sort key: the column, `up` or `down`, and whether nulls come `first` or `last`.
 //! - Each conjunct, with `@` and its aliases as a number of bits. A sum stands in brackets.
+//!
+//! A shape is five parts more: `grouped` or `each`; the columns of GROUP BY; the cells, each with its set function,
+//! column and name; the sort keys, each a cell or a column; and `distinct` and `limit` with its number.
 
 use case_kit::push_listed;
-use sq_expr::{AliasUse, Arg, Block, ColumnOf, Cond, Conjunct, OrderKey, OutCol, Side, Term};
-use sq_value::Value;
+use sq_bind::Shaped;
+use sq_expr::{
+    AggKind, AliasUse, Arg, Block, Cell, ColumnOf, Cond, Conjunct, OrderKey, OutCol, Shape,
+    ShapeOrder, Side, SortOn, Term,
+};
+use sq_value::{SortWay, Value};
 use std::alloc::Global;
 use std::test::Fail;
 
@@ -40,12 +47,17 @@ fn output_text(alloc: Global, output: &[OutCol]) -> Result<String, Fail> {
     Ok(text)
 }
 
+fn way_text(way: SortWay) -> (&'static str, &'static str) {
+    let up = if way.descending { "down" } else { "up" };
+    let nulls = if way.nulls_first { "first" } else { "last" };
+    (up, nulls)
+}
+
 fn order_text(alloc: Global, order: &[OrderKey]) -> Result<String, Fail> {
     let mut text = String::new(alloc);
     for key in order {
         let (alias, column) = (key.alias, key.column);
-        let way = if key.way.descending { "down" } else { "up" };
-        let nulls = if key.way.nulls_first { "first" } else { "last" };
+        let (way, nulls) = way_text(key.way);
         let part = format!(in alloc; "{alias}.{column} {way} {nulls}")?;
         push_listed(&mut text, ", ", part.as_str())?;
     }
@@ -175,4 +187,77 @@ pub fn shown(alloc: Global, block: &Block) -> Result<String, Fail> {
     let (aliases, output) = (or_dash(&aliases), or_dash(&output));
     let (order, conjuncts) = (or_dash(&order), or_dash(&conjuncts));
     Ok(format!(in alloc; "{aliases}; {output}; {order}; {conjuncts}")?)
+}
+
+fn agg_text(agg: Option<AggKind>) -> &'static str {
+    match agg {
+        None => "",
+        Some(AggKind::CountAll) => "all ",
+        Some(AggKind::Count) => "count ",
+        Some(AggKind::Sum) => "sum ",
+        Some(AggKind::Min) => "min ",
+        Some(AggKind::Max) => "max ",
+    }
+}
+
+fn cells_text(alloc: Global, cells: &[Cell]) -> Result<String, Fail> {
+    let mut text = String::new(alloc);
+    for cell in cells {
+        let column = column_text(alloc, cell.column)?;
+        let (agg, name) = (agg_text(cell.agg), cell.name.as_str());
+        let part = format!(in alloc; "{agg}{column} {name}")?;
+        push_listed(&mut text, ", ", part.as_str())?;
+    }
+    Ok(text)
+}
+
+fn keys_text(alloc: Global, keys: &[ColumnOf]) -> Result<String, Fail> {
+    let mut text = String::new(alloc);
+    for key in keys {
+        push_listed(&mut text, ", ", column_text(alloc, *key)?.as_str())?;
+    }
+    Ok(text)
+}
+
+fn on_text(alloc: Global, on: SortOn) -> Result<String, Fail> {
+    match on {
+        SortOn::Cell(place) => Ok(format!(in alloc; "cell {place}")?),
+        SortOn::Column(column) => column_text(alloc, column),
+    }
+}
+
+fn sort_text(alloc: Global, order: &[ShapeOrder]) -> Result<String, Fail> {
+    let mut text = String::new(alloc);
+    for key in order {
+        let on = on_text(alloc, key.on)?;
+        let (way, nulls) = way_text(key.way);
+        let part = format!(in alloc; "{on} {way} {nulls}")?;
+        push_listed(&mut text, ", ", part.as_str())?;
+    }
+    Ok(text)
+}
+
+fn rest_text(alloc: Global, shape: &Shape) -> Result<String, Fail> {
+    let mut text = String::new(alloc);
+    if shape.distinct {
+        push_listed(&mut text, " ", "distinct")?;
+    }
+    if let Some(limit) = shape.limit {
+        push_listed(&mut text, " ", format!(in alloc; "limit {limit}")?.as_str())?;
+    }
+    Ok(text)
+}
+
+/// The block and the shape as a line of text.
+pub fn shape_shown(alloc: Global, shaped: &Shaped) -> Result<String, Fail> {
+    let block = shown(alloc, &shaped.block)?;
+    let shape = &shaped.shape;
+    let grouped = if shape.grouped { "grouped" } else { "each" };
+    let keys = keys_text(alloc, shape.keys.as_slice())?;
+    let cells = cells_text(alloc, shape.cells.as_slice())?;
+    let order = sort_text(alloc, shape.order.as_slice())?;
+    let rest = rest_text(alloc, shape)?;
+    let (keys, cells) = (or_dash(&keys), or_dash(&cells));
+    let (order, rest) = (or_dash(&order), or_dash(&rest));
+    Ok(format!(in alloc; "{block}; {grouped}; {keys}; {cells}; {order}; {rest}")?)
 }

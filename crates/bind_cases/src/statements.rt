@@ -1,20 +1,22 @@
 //! Statements and what binding says of them. A case is a line: what is wanted, a bar, and what is asked.
 
-ghost use Rattle.std.specs.Prelude.{◌<◌, length, All};
+ghost use Rattle.std.specs.Prelude.{◌≡◌, ◌<◌, length, All, true, false};
+ghost use Rattle.sq_parse.specs.Shaped.{is_shaped};
 ghost use Rattle.sq_bind.specs.Given.{IsParsed, AreAccesses};
 
 use crate::sample::{Sample, catalogue};
-use crate::shown::shown;
+use crate::shown::{shape_shown, shown};
 use case_kit::{are_ways_of, ways_of_words};
 use catalogue::Catalogue;
-use sq_bind::{BindFault, bind};
+use sq_bind::{BindFault, Shaped, bind, bind_shape};
 use sq_expr::{Access, Block};
-use sq_parse::{Statement, parse};
+use sq_parse::{Statement, is_shaped, parse};
 use std::alloc::Global;
 use std::test::Fail;
 
 mod blocks;
 mod faults;
+mod shapes;
 
 /// Cases that have the accesses and the front of their texts in common.
 #[derive(Clone, Copy)]
@@ -27,9 +29,9 @@ pub struct Group {
 /// What is asked of a statement that has a block.
 #[derive(Clone, Copy)]
 enum Asked {
-    /// `block` and the number of conjuncts.
+    /// `block` or `shape`, and the number of conjuncts.
     Length,
-    /// The block, whole.
+    /// The block, whole, with the shape where there is one.
     Block,
 }
 
@@ -46,6 +48,8 @@ fn fault_text(alloc: Global, fault: BindFault) -> Result<String, Fail> {
         BindFault::TooManyAliases { at } => ("TooManyAliases", at),
         BindFault::TooManyConjuncts { at } => ("TooManyConjuncts", at),
         BindFault::TooManyTerms { at } => ("TooManyTerms", at),
+        BindFault::NotGrouped { at } => ("NotGrouped", at),
+        BindFault::NotSelected { at } => ("NotSelected", at),
         BindFault::Unreachable { alias } => ("Unreachable", u32::from(alias)),
         BindFault::Memory => ("Memory", 0),
     };
@@ -59,6 +63,47 @@ fn block_text(alloc: Global, asked: Asked, block: &Block) -> Result<String, Fail
     }
 }
 
+fn shape_text(alloc: Global, asked: Asked, shaped: &Shaped) -> Result<String, Fail> {
+    match asked {
+        Asked::Length => Ok(format!(in alloc; "shape {}", shaped.block.conjuncts.len())?),
+        Asked::Block => shape_shown(alloc, shaped),
+    }
+}
+
+fn plain_text(
+    alloc: Global,
+    asked: Asked,
+    catalogue: &Catalogue,
+    accesses: &[Access],
+    statement: &Statement,
+) -> Result<String, Fail>
+    requires parsed { IsParsed statement.now }
+    requires plain { is_shaped statement.now ≡ false }
+    requires reached { AreAccesses catalogue.now.tables accesses.now }
+{
+    match bind(alloc, statement, catalogue, accesses, &Sample) {
+        Ok(block) => block_text(alloc, asked, &block),
+        Err(fault) => fault_text(alloc, fault),
+    }
+}
+
+fn shaped_text(
+    alloc: Global,
+    asked: Asked,
+    catalogue: &Catalogue,
+    accesses: &[Access],
+    statement: &Statement,
+) -> Result<String, Fail>
+    requires parsed { IsParsed statement.now }
+    requires shaped { is_shaped statement.now ≡ true }
+    requires reached { AreAccesses catalogue.now.tables accesses.now }
+{
+    match bind_shape(alloc, statement, catalogue, accesses, &Sample) {
+        Ok(shaped) => shape_text(alloc, asked, &shaped),
+        Err(fault) => fault_text(alloc, fault),
+    }
+}
+
 fn statement_text(
     alloc: Global,
     asked: Asked,
@@ -69,9 +114,10 @@ fn statement_text(
     requires parsed { IsParsed statement.now }
     requires reached { AreAccesses catalogue.now.tables accesses.now }
 {
-    match bind(alloc, statement, catalogue, accesses, &Sample) {
-        Ok(block) => block_text(alloc, asked, &block),
-        Err(fault) => fault_text(alloc, fault),
+    if is_shaped(statement) {
+        shaped_text(alloc, asked, catalogue, accesses, statement)
+    } else {
+        plain_text(alloc, asked, catalogue, accesses, statement)
     }
 }
 
@@ -174,6 +220,14 @@ fn statements_are_bound(rt: HostRuntime) -> Result<(), Fail> {
         assert_eq!(rt; wrong.as_str(), "");
     }
     for group in blocks::groups() {
+        let wrong = wrong_of(rt.alloc(), Asked::Block, &catalogue, &group)?;
+        assert_eq!(rt; wrong.as_str(), "");
+    }
+    for group in shapes::groups() {
+        let wrong = wrong_of(rt.alloc(), Asked::Length, &catalogue, &group)?;
+        assert_eq!(rt; wrong.as_str(), "");
+    }
+    for group in shapes::whole() {
         let wrong = wrong_of(rt.alloc(), Asked::Block, &catalogue, &group)?;
         assert_eq!(rt; wrong.as_str(), "");
     }

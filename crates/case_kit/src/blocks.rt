@@ -1,5 +1,6 @@
 //! Blocks from the text of a statement.
-ghost use Rattle.std.specs.Prelude.{◌≡◌, Some, slice_get, IfOk, IfSome};
+ghost use Rattle.std.specs.Prelude.{◌≡◌, Some, false, slice_get, IfOk, IfSome};
+ghost use Rattle.sq_parse.specs.Shaped.{is_shaped};
 ghost use Rattle.sq_expr.specs.Fits.{IsFit};
 ghost use Rattle.sq_expr.specs.Reach.{IsReachable};
 ghost use Rattle.sq_parse.specs.Spelling.{Spelled};
@@ -12,7 +13,7 @@ use crate::ways::{are_ways_of, ways_of_words};
 use catalogue::Catalogue;
 use sq_bind::{BindFault, bind};
 use sq_expr::{Access, Block};
-use sq_parse::{ParseFault, Script, Statement, parse};
+use sq_parse::{ParseFault, Script, Statement, is_shaped, parse};
 use sq_value::{Memory, Predicates};
 use std::alloc::Global;
 
@@ -39,6 +40,7 @@ fn bound<F: Predicates>(
     functions: &F,
 ) -> Result<Option<Block>, Memory>
     requires parsed { IsParsed statement.now }
+    requires plain { is_shaped statement.now ≡ false }
     requires reached { AreAccesses catalogue.now.tables accesses.now }
     ensures bound { let calls = calling (F.number_of functions.now) (F.kinds_of functions.now) in
         IfOk result (λ block. IfSome block (IsBound (over catalogue.now accesses.now calls) statement.now)) }
@@ -53,7 +55,7 @@ fn bound<F: Predicates>(
 }
 
 /// The block of a text's first statement, where it is bound with these ways of the tables: words with a blank between.
-/// None where there is no such block.
+/// None where there is no such block, as for a statement with set functions, GROUP BY, DISTINCT or LIMIT.
 ///
 /// # Errors
 /// There is no memory for it.
@@ -80,5 +82,8 @@ pub fn block_of_case<F: Predicates>(
     let Some(statement) = script.statements.as_slice().first() else {
         return Ok(None);
     };
+    if is_shaped(statement) {
+        return Ok(None);
+    }
     bound(alloc, catalogue, accesses, statement, functions)
 }

@@ -5,12 +5,14 @@
 #![tactic(auto)]
 
 mod blocks;
+mod counted;
 mod fault;
 mod listing;
 mod tables;
 mod ways;
 
 pub use blocks::block_of_case;
+pub use counted::Counted;
 pub use fault::CaseFault;
 pub use listing::push_listed;
 pub use tables::catalogue_of_lines;

@@ -16,7 +16,7 @@ use Rattle.command_line.specs.Steps.{◌>>=◌}
 use Rattle.command_line.specs.Program.{program}
 use Rattle.command_line.specs.Tables.{is_named_file, names_differ, table_of_word, tables_of, has_name}
 use Rattle.command_line.specs.Accesses.{access_of, access_with, accesses_of, accesses_of_items, items_in, is_dot, if_differ, tables_differ}
-use Rattle.command_line.specs.Settings.{is_number, number_between, number_or, workers_of, seed_of, policy_of, route_of, is_flag_given}
+use Rattle.command_line.specs.Settings.{is_number, number_between, number_or, workers_of, seed_of, cache_of, policy_of, route_of, is_flag_given}
 use Rattle.command_line.specs.Form.{command, command_of, asked_by, task_in, task_of, query_of, demo_of, other_words_of}
 use Rattle.command_line.specs.Within.{IsAccess, IsQuery, IsDemo, IsTask, IsWithin}
 use Rattle.command_line.specs.declared.command.TableWord.{TableWord}
@@ -58,6 +58,13 @@ workers_in None n e =
     given : Some 1 ≡ Some n → 1 ≡ n
     given f = cc
 workers_in (Some text) n e = in_range 1 16 text n e
+
+cache_in : (o : Option (List ℕ)) (n : ℕ) → cache_of o ≡ Some n → n ≤ 4096
+cache_in None n e = let same : 0 ≡ n = given e in omega (arith, same)
+  where
+    given : Some 0 ≡ Some n → 0 ≡ n
+    given f = cc
+cache_in (Some text) n e = (in_range 0 4096 text n e).1
 
 route_in : (o : Option (List ℕ)) (text : List ℕ) → route_of o ≡ Some text → is_ok (script_of text) ≡ true
 route_in None text e = subst (λ (t : List ℕ). is_ok (script_of t) ≡ true) (given e) refl
@@ -181,12 +188,14 @@ asked_within rows c e =
     let policy = step_given (policy_of (first_of (codes "policy") rows)) _ c workers.2 in
     let seed = step_given (seed_of (first_of (codes "seed") rows)) _ c policy.2 in
     let route = step_given (route_of (first_of (codes "route") rows)) _ c seed.2 in
-    let task = step_given (task_in rows) _ c route.2 in
+    let cache = step_given (cache_of (first_of (codes "cache") rows)) _ c route.2 in
+    let task = step_given (task_in rows) _ c cache.2 in
     let range = workers_in (first_of (codes "workers") rows) workers.0 workers.1 in
-    subst IsWithin (given (command_of workers.0 policy.0 seed.0 route.0 (is_flag_given (first_of (codes "tally") rows)) task.0) task.2) (record {
+    subst IsWithin (given (command_of workers.0 policy.0 seed.0 route.0 cache.0 (is_flag_given (first_of (codes "tally") rows)) task.0) task.2) (record {
       some = range.0;
       few = range.1;
       route = route_in (first_of (codes "route") rows) route.0 route.1;
+      cache = cache_in (first_of (codes "cache") rows) cache.0 cache.1;
       task = task_within (first_of (codes "demo") rows) (other_words_of rows) (first_of (codes "index") rows) (first_of (codes "lookup") rows) task.0 task.1;
     })
   where

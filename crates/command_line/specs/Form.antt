@@ -7,7 +7,7 @@ use Rattle.command_line.specs.Steps.{◌>>=◌}
 use Rattle.command_line.specs.Program.{program}
 use Rattle.command_line.specs.Tables.{tables_of}
 use Rattle.command_line.specs.Accesses.{accesses_of}
-use Rattle.command_line.specs.Settings.{number_between, workers_of, seed_of, policy_of, route_of, is_flag_given}
+use Rattle.command_line.specs.Settings.{number_between, workers_of, seed_of, cache_of, policy_of, route_of, is_flag_given}
 use Rattle.command_line.specs.declared.command.Command.{Command}
 use Rattle.command_line.specs.declared.command.PolicyName.{PolicyName}
 use Rattle.command_line.specs.declared.command.Query.{Query as QueryWords}
@@ -28,9 +28,9 @@ demo_of rows words index lookup =
     if is_empty words && is_none index && is_none lookup then number_between 1 100000 rows else None
 
 -- a command of these parts
-abbrev pub command_of : ℕ → PolicyName → ℕ → Text → Bool → Task → Command
-command_of workers policy seed route tally task =
-    record { workers = workers; policy = policy; seed = seed; route = route; tally = tally; task = task }
+abbrev pub command_of : ℕ → PolicyName → ℕ → Text → ℕ → Bool → Task → Command
+command_of workers policy seed route cache tally task =
+    record { workers = workers; policy = policy; seed = seed; route = route; cache = cache; tally = tally; task = task }
 
 -- what is to be run, by the text of `--demo`, the words that are no option's, and the texts of the two options
 abbrev pub task_of : Option Text → List Text → Option Text → Option Text → Option Task
@@ -54,8 +54,9 @@ asked_by rows = do
   policy ← policy_of (first_of (codes "policy") rows)
   seed ← seed_of (first_of (codes "seed") rows)
   route ← route_of (first_of (codes "route") rows)
+  cache ← cache_of (first_of (codes "cache") rows)
   task ← task_in rows
-  Some (command_of workers policy seed route (is_flag_given (first_of (codes "tally") rows)) task)
+  Some (command_of workers policy seed route cache (is_flag_given (first_of (codes "tally") rows)) task)
 
 -- the command of some words, where clap takes them and what it finds in them is in form
 unfoldable pub command : List Text → Option Command

@@ -34,8 +34,9 @@ bare_program =
 -- with the options that say how to run
 abbrev pub with_settings : App
 with_settings =
-    with_rule (with_rule (with_rule (with_rule bare_program (option_named (codes "workers"))) (option_named (codes
-    "policy"))) (option_named (codes "seed"))) (option_named (codes "route"))
+    with_rule (with_rule (with_rule (with_rule (with_rule bare_program (option_named (codes "workers")))
+    (option_named (codes "policy"))) (option_named (codes "seed"))) (option_named (codes "route")))
+    (option_named (codes "cache"))
 
 -- the command line: its options, its flag, and any number of other words
 unfoldable pub program : App
@@ -44,8 +45,9 @@ program =
       top =
           record bare_program.top {
             rules = option_named (codes "workers") ∷ option_named (codes "policy") ∷ option_named (codes "seed")
-                ∷ option_named (codes "route") ∷ option_named (codes "index") ∷ option_named (codes "lookup")
-                ∷ option_named (codes "demo") ∷ flag_named (codes "tally") ∷ other_words ∷ [];
+                ∷ option_named (codes "route") ∷ option_named (codes "cache") ∷ option_named (codes "index")
+                ∷ option_named (codes "lookup") ∷ option_named (codes "demo") ∷ flag_named (codes "tally")
+                ∷ other_words ∷ [];
           };
       subs = [];
     }

@@ -31,6 +31,10 @@ workers_of = number_or 1 1 16
 abbrev pub seed_of : Option (List ℕ) → Option ℕ
 seed_of = number_or 1 0 (2 ^ 64 - 1)
 
+-- the room of a cache of predicates' answers, 0 to 4,096: 0, which is none, where it isn't given
+abbrev pub cache_of : Option (List ℕ) → Option ℕ
+cache_of = number_or 0 0 4096
+
 -- the policy of this name
 abbrev pub policy_named : List ℕ → Option PolicyName
 policy_named text =

@@ -33,9 +33,10 @@ abbrev pub IsTask : Task → Type 0
 IsTask (Query q) = IsQuery q
 IsTask (Demo rows) = IsDemo rows
 
--- there are 1 to 16 workers, and the route text is a route script
+-- there are 1 to 16 workers, the route text is a route script, and a cache has room for 4,096 answers at most
 pub record IsWithin (c : Command) : Type 0 where
   pub some : 1 ≤ c.workers
   pub few : c.workers ≤ 16
   pub route : is_ok (script_of c.route) ≡ true
+  pub cache : c.cache ≤ 4096
   pub task : IsTask c.task

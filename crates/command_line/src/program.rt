@@ -60,7 +60,8 @@ fn with_settings<'a>(alloc: Global) -> Result<Command<'a>, AllocError>
     let command = with_option(alloc, bare_program(alloc), "workers")?;
     let command = with_option(alloc, command, "policy")?;
     let command = with_option(alloc, command, "seed")?;
-    with_option(alloc, command, "route")
+    let command = with_option(alloc, command, "route")?;
+    with_option(alloc, command, "cache")
 }
 
 #[tactic(auto, unfolding(crate::specs::Program::program))]

@@ -13,7 +13,9 @@ use crate::accesses::accesses_of;
 use crate::command::{Command, Query, Task};
 use crate::fault::WordsFault;
 use crate::matching::{find_matches, text_of};
-use crate::settings::{is_flag_given, number_between, policy_of, route_of, seed_of, workers_of};
+use crate::settings::{
+    cache_of, is_flag_given, number_between, policy_of, route_of, seed_of, workers_of,
+};
 use crate::tables::tables_of;
 use clap::ArgMatches;
 use sq_value::SqText;
@@ -108,6 +110,7 @@ fn asked_by(alloc: Global, matches: &ArgMatches<'_>) -> Result<Command, WordsFau
     let policy = policy_of(text_of(matches, "policy"))?;
     let seed = seed_of(text_of(matches, "seed"))?;
     let route = route_of(alloc, text_of(matches, "route"))?;
+    let cache = cache_of(text_of(matches, "cache"))?;
     let tally = is_flag_given(text_of(matches, "tally"));
     let task = task_in(alloc, matches)?;
     Ok(Command {
@@ -115,6 +118,7 @@ fn asked_by(alloc: Global, matches: &ArgMatches<'_>) -> Result<Command, WordsFau
         policy,
         seed,
         route,
+        cache,
         tally,
         task,
     })

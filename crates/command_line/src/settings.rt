@@ -20,6 +20,9 @@ const MAX_DIGITS: usize = 20;
 /// The most workers.
 const MAX_WORKERS: u64 = 16;
 
+/// The most answers that a cache has room for.
+const MAX_CACHE: u64 = 4096;
+
 fn all_digits(text: &[u8]) -> bool
     ensures { result ≡ list_all is_ascii_digit text.now }
 {
@@ -76,6 +79,19 @@ pub fn seed_of(text: Option<&str>) -> Result<u64, WordsFault>
 {
     match number_or(1, 0, u64::MAX, text) {
         Some(seed) => Ok(seed),
+        None => Err(WordsFault::OutOfForm),
+    }
+}
+
+/// The room of a cache of predicates' answers, 0 to 4,096: 0, which is none, where it isn't given.
+///
+/// # Errors
+/// `OutOfForm`: the text isn't such a number.
+pub fn cache_of(text: Option<&str>) -> Result<u32, WordsFault>
+    ensures { Reads (spec.cache_of (option_map (λ t. t.now) text.entry)) result }
+{
+    match number_or(0, 0, MAX_CACHE, text) {
+        Some(room) => Ok(room as u32),
         None => Err(WordsFault::OutOfForm),
     }
 }

@@ -6,6 +6,8 @@
 #[cfg(test)]
 mod blocks;
 #[cfg(test)]
+mod cached;
+#[cfg(test)]
 mod claims;
 #[cfg(test)]
 mod compared;

@@ -72,8 +72,8 @@ struct Counts {
     found: usize,
 }
 
-// A policy by its word: `lottery`, `greedy`, `pressure`, or a route script.
-fn policy_of(word: &str) -> AnyPolicy {
+/// A policy by its word: `lottery`, `greedy`, `pressure`, or a route script.
+pub fn policy_of(word: &str) -> AnyPolicy {
     if word == "lottery" {
         return AnyPolicy::Lottery(Lottery::new(1));
     }

@@ -17,4 +17,4 @@ asked_none words e = ap (option_map request_of) e
 
 -- what is asked for is within what the words may ask for
 pub request_within : (c : Command) → IsWithin c → IsTask (request_of c).task × AreSettings (request_of c).settings
-request_within c w = (w.task, record { some = w.some; few = w.few; script = w.route })
+request_within c w = (w.task, record { some = w.some; few = w.few; script = w.route; room = w.cache })

@@ -39,6 +39,7 @@ fn request_of(command: Command) -> Request
         policy,
         seed,
         route,
+        cache,
         tally,
         task,
     } = command;
@@ -47,6 +48,7 @@ fn request_of(command: Command) -> Request
         policy,
         seed,
         route,
+        cache,
         tally,
     };
     Request { task, settings }

@@ -10,13 +10,15 @@ use sq_value::{Memory, SqText};
 use std::alloc::Global;
 
 /// The number of workers, 1 to 16, the policy's name, the seed of the lottery, the text of the route
-/// script, and whether a line of counts is wanted for each statement.
+/// script, the room of each worker's cache of predicates' answers, 0 to 4,096, where 0 is none, and
+/// whether a line of counts is wanted for each statement.
 #[derive(Debug, Drop)]
 pub struct Settings {
     pub workers: u32,
     pub policy: PolicyName,
     pub seed: u64,
     pub route: SqText,
+    pub cache: u32,
     pub tally: bool,
 }
 

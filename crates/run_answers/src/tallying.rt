@@ -5,7 +5,7 @@ ghost use Rattle.std.specs.String.{string_bytes};
 ghost use Rattle.run_answers.specs.Tally as spec;
 
 use bag_meaning::Built;
-use eddy_core::Answered;
+use eddy_core::CachedAnswer;
 use std::alloc::{AllocError, Global};
 
 // The number of rows of an alias that were built.
@@ -37,8 +37,26 @@ fn built_text(alloc: Global, aliases: usize, log: &[Built]) -> Result<String, Al
     Ok(text)
 }
 
+// The hits as a line tells them: only with a cache, which has room.
+fn hits_told(room: u32, hits: u64) -> Option<u64>
+    ensures { result ≡ spec.hits_told room hits }
+{
+    if room == 0 { None } else { Some(hits) }
+}
+
+// What a line says of hits.
+fn hits_text(alloc: Global, hits: Option<u64>) -> Result<String, AllocError>
+    ensures { IfOk result (λ text. string_bytes text ≡ spec.hits_text hits) }
+{
+    match hits {
+        Some(hits) => format!(in alloc; " hits {hits}"),
+        None => Ok(String::new(alloc)),
+    }
+}
+
 /// The line of counts of the statement with this number, by the record of its run: the rows that were
-/// built of each of so many aliases, the most hops of a tuple, and the number of keys that were looked up.
+/// built of each of so many aliases, the most hops of a tuple, the number of keys that were looked up,
+/// and the hits of its caches, where these have room.
 ///
 /// # Errors
 /// There is no memory for the line.
@@ -46,14 +64,18 @@ pub fn line_of_counts(
     alloc: Global,
     number: usize,
     aliases: usize,
-    answered: &Answered<'_>,
+    room: u32,
+    cached: &CachedAnswer<'_>,
 ) -> Result<String, AllocError>
     ensures { IfOk result (λ line. string_bytes line ≡ spec.line_of_counts number aliases
-        answered.now.built.items answered.now.most_hops (length answered.now.looked.items)) }
+        cached.now.answered.built.items cached.now.answered.most_hops
+        (length cached.now.answered.looked.items) (spec.hits_told room cached.now.hits)) }
 {
+    let answered = &cached.answered;
     let log = answered.built.as_slice();
     let hops = answered.most_hops;
     let looked = answered.looked.len();
     let built = built_text(alloc, aliases, log)?;
-    format!(in alloc; "query {number}: built {built} hops {hops} looked {looked}\n")
+    let hits = hits_text(alloc, hits_told(room, cached.hits))?;
+    format!(in alloc; "query {number}: built {built} hops {hops} looked {looked}{hits}\n")
 }

@@ -6,4 +6,4 @@
 
 mod selection;
 
-pub use selection::apply;
+pub use selection::{apply, apply_cached};

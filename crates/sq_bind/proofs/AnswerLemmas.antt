@@ -1,27 +1,32 @@
 -- What the answers of the rounds say together, and that a statement has one answer.
-use Rattle.std.proofs.Common.{◌≡◌, ◌⊎◌, inl, inr, ℕ, zero, suc, ◌<◌, ◌≤◌, Bool, true, false, List, [], ◌∷◌, length, map, Option, Some, None, Result, Ok, Err, refl, ap, sym, subst, ◌∙◌, arith, if◌then◌else◌, nat_lt}
-use Rattle.std.specs.Prelude.{◌&&◌, ◌==◌, All, Contains, MatchResult, IfOk, IfErr, IsErrAnd, IsSome, IfSome, IsSomeAnd}
+use Rattle.std.proofs.Common.{◌≡◌, ◌≢◌, ◌⊎◌, inl, inr, ℕ, zero, suc, ◌<◌, ◌≤◌, Bool, true, false, List, [], ◌∷◌, length, map, Option, Some, None, Result, Ok, Err, refl, ap, sym, subst, ◌∙◌, arith, if◌then◌else◌, nat_lt}
+use Rattle.std.specs.Prelude.{◌&&◌, ◌==◌, slice_get, All, Contains, MatchResult, IfOk, IfErr, IsErrAnd, IsSome, IfSome, IsSomeAnd}
 use Rattle.std.specs.List.{AllByRecursion as Each}
 use Rattle.std.proofs.lemmas.Bool.{cases_order, or_parts, or_cases, and_parts, ltb-true, ltb-false, eqb-true, eqb-false}
 use Rattle.std.proofs.lemmas.List.Elements.{All-nil, All-cons, All-head, All-tail, recursion_from_All}
 use Rattle.sq_parse.specs.declared.tree.Source.{Source}
 use Rattle.sq_parse.specs.declared.tree.Statement.{Statement}
-use Rattle.sq_expr.specs.Reach.{IsReachable}
+use Rattle.sq_expr.specs.Reach.{IsLed, IsClosed, IsReachable}
 use Rattle.sq_expr.specs.declared.block.Block.{Block}
+use Rattle.sq_expr.specs.declared.shape.Shape.{Shape}
 use Rattle.sq_bind.specs.Fault.{IsFirst, IsNotLater, is_before, place_of, fault_number, sooner, first_of}
 use Rattle.sq_expr.specs.Fits.{IsFit}
+use Rattle.sq_expr.specs.Shapes.{FitsShape}
 use Rattle.sq_expr.specs.declared.block.AliasUse.{AliasUse}
+use Rattle.sq_expr.specs.declared.block.Conjunct.{Conjunct}
 use Rattle.sq_bind.specs.Visible.{Alias}
-use Rattle.sq_bind.specs.Statement.{Scope, from_faults, rest_faults, block_of, aliases_in, output_of, placed_in, placed_conjunct, key_of, use_of}
-use Rattle.sq_bind.specs.Found.{IsFound, used_at, block_with}
+use Rattle.sq_bind.specs.Statement.{Scope, from_faults, rest_faults, matches_of, shape_in, shaped_of, plain_block, block_of, aliases_in, placed_in, placed_conjunct, first_output, use_of}
+use Rattle.sq_bind.specs.Found.{IsFound, used_at, matches_with}
 use Rattle.sq_bind.specs.Given.{AreAccesses}
 use Rattle.sq_bind.specs.Reached.{first_unreached}
 use Rattle.sq_bind.specs.Sound.{IsSound}
-use Rattle.sq_bind.specs.Answer.{IsReachedAlias, IsFirstUnreached, IsBindFault, IsBound}
-use Rattle.sq_bind.specs.Told.{IsAnswer}
+use Rattle.sq_bind.specs.Answer.{IsReachedAlias, IsFirstUnreached, IsBindFault, IsBound, IsBoundShape}
+use Rattle.sq_bind.specs.Told.{IsMade, IsAnswer, IsPlainOf}
+use Rattle.sq_bind.specs.declared.shaped.Shaped.{Shaped}
 use Rattle.sq_bind.specs.declared.fault.BindFault.{BindFault}
 use Rattle.sq_bind.specs.declared.fault.BindFault.TheVariants as fault
-use Rattle.sq_bind.proofs.BlockFits.{first_round, block_fits}
+use Rattle.sq_bind.proofs.BlockFits.{first_round, held, faultless, both_fit}
+use Rattle.sq_bind.proofs.ShapeFits.{shape_fits}
 use Rattle.sq_bind.proofs.ReachLemmas.{unreached, all_reached}
 use Rattle.std.proofs.lemmas.List.{length-map}
 
@@ -120,6 +125,8 @@ numbered at number =
     else if number == 10 then fault.TooManyConjuncts at
     else if number == 11 then fault.TooManyTerms at
     else if number == 12 then fault.Unreachable at
+    else if number == 14 then fault.NotGrouped at
+    else if number == 15 then fault.NotSelected at
     else fault.Memory
 
 numbered_is : (f : BindFault) → numbered (place_of f) (fault_number f) ≡ f
@@ -136,6 +143,8 @@ numbered_is (fault.TooManyAliases at) = refl
 numbered_is (fault.TooManyConjuncts at) = refl
 numbered_is (fault.TooManyTerms at) = refl
 numbered_is (fault.Unreachable alias) = refl
+numbered_is (fault.NotGrouped at) = refl
+numbered_is (fault.NotSelected at) = refl
 numbered_is fault.Memory = refl
 
 same_fault : (f g : BindFault) → place_of f ≡ place_of g → fault_number f ≡ fault_number g → f ≡ g
@@ -155,6 +164,41 @@ no_first : (faults : List BindFault) (f : BindFault) → faults ≡ [] → IsFir
 no_first faults f none first =
     let h : Contains [] f = subst (λ (fs : List BindFault). Contains fs f) none first.among in
     let low = h.1 in omega (arith, low)
+
+-- ---- reach goes by aliases and conjuncts alone
+
+led_by : (x y : Block) → x.aliases ≡ y.aliases → x.conjuncts ≡ y.conjuncts → (set' : ℕ → Bool) (alias : ℕ) → IsLed x set' alias → IsLed y set' alias
+led_by x y e f set' alias h = record {
+  u = h.u;
+  used = subst (λ (us : List AliasUse). slice_get us alias ≡ Some h.u) e h.used;
+  p = h.p;
+  conjunct = h.conjunct;
+  at = subst (λ (cs : List Conjunct). slice_get cs h.p ≡ Some h.conjunct) f h.at;
+  own = h.own;
+  other = h.other;
+  compares = h.compares;
+  of = h.of;
+  look_up = h.look_up;
+  plain = h.plain;
+  led = h.led;
+}
+
+closed_by : (x y : Block) → x.aliases ≡ y.aliases → x.conjuncts ≡ y.conjuncts → (set' : ℕ → Bool) → IsClosed x set' → IsClosed y set'
+closed_by x y e f set' h = record {
+  scanned = λ alias u at scan. h.scanned alias u (subst (λ (us : List AliasUse). slice_get us alias ≡ Some u) (sym e) at) scan;
+  led = λ alias led. h.led alias (led_by y x (sym e) (sym f) set' alias led);
+}
+
+pub reachable_by : (x y : Block) → x.aliases ≡ y.aliases → x.conjuncts ≡ y.conjuncts → IsReachable x → IsReachable y
+reachable_by x y e f h = record {
+  first = h.first;
+  u = h.u;
+  at = subst (λ (us : List AliasUse). slice_get us h.first ≡ Some h.u) e h.at;
+  scanned = h.scanned;
+  each = λ set' closed alias low.
+      h.each set' (closed_by y x (sym e) (sym f) set' closed) alias
+      (subst (λ (us : List AliasUse). alias < length us) (sym e) low);
+}
 
 -- ---- one answer
 
@@ -200,18 +244,115 @@ module _ (scope : Scope) (s : Statement) where
   pub one_block : (x y : Block) → IsBound scope s x → IsBound scope s y → x ≡ y
   one_block x y a b = a.is ∙ sym b.is
 
+  -- the matches have the aliases and the conjuncts of the plain block
+  plain_matches : IsReachable (matches_of scope s) → IsReachable (block_of scope s)
+  unfolding plain_block
+  plain_matches h = reachable_by (matches_of scope s) (block_of scope s) refl refl h
+
+  matches_plain : IsReachable (block_of scope s) → IsReachable (matches_of scope s)
+  unfolding plain_block
+  matches_plain h = reachable_by (block_of scope s) (matches_of scope s) refl refl h
+
+  -- nor beside a block and a shape
+  pub no_fault_shape : (shaped : Shaped) (f : BindFault) → IsBoundShape scope s shaped → IsBindFault scope s f → ⊥
+  no_fault_shape shaped f bound told =
+      let reached : IsReachable (matches_of scope s) = subst (λ (m : Shaped). IsReachable m.block) bound.is bound.reachable in
+      no_fault (block_of scope s) f
+      (record { from = bound.from; rest = bound.rest; is = refl; reachable = plain_matches reached }) told
+
+  pub one_shape : (x y : Shaped) → IsBoundShape scope s x → IsBoundShape scope s y → x ≡ y
+  one_shape x y a b = a.is ∙ sym b.is
+
+  -- what was made, as the block and as the block with the shape
+  pub bound_plain : (made : Shaped) (block : Block) → IsMade scope s made → block ≡ plain_block made.block made.shape → IsBound scope s block
+  bound_plain made block h e =
+      let is : block ≡ block_of scope s = e ∙ ap (λ (m : Shaped). plain_block m.block m.shape) h.is in
+      record { from = h.from; rest = h.rest; is = is; reachable = subst IsReachable (sym is) h.reachable }
+
+  pub bound_shape : (made : Shaped) → IsMade scope s made → IsBoundShape scope s made
+  bound_shape made h = record {
+    from = h.from;
+    rest = h.rest;
+    is = h.is;
+    reachable = subst (λ (m : Shaped). IsReachable m.block) (sym h.is) (matches_plain h.reachable);
+  }
+
+  pub unordered : (made : Shaped) → IsMade scope s made → made.block.order ≡ []
+  unfolding matches_of
+  unordered made h = ap (λ (m : Shaped). m.block.order) h.is
+
+  -- what is said of a statement that isn't shaped
+  abbrev pub IsPlainAnswer : Result Block BindFault → Type 0
+  IsPlainAnswer r = MatchResult r (IsBound scope s) (λ f. (f ≡ fault.Memory) ⊎ IsBindFault scope s f)
+
+  pub plain_told : (made : Result Shaped BindFault) (r : Result Block BindFault) → IsAnswer scope s made → IsPlainOf made r → IsPlainAnswer r
+  plain_told (Ok m) (Ok block) h e = bound_plain m block h e
+  plain_told (Ok m) (Err f) h e = inl e
+  plain_told (Err f) (Ok block) h e = absurd e
+  plain_told (Err f) (Err g) h e = subst (λ (x : BindFault). (x ≡ fault.Memory) ⊎ IsBindFault scope s x) (sym e) h
+
+  pub plain_fits : (made : Result Shaped BindFault) (r : Result Block BindFault)
+      → IfOk made (λ m. IsFit scope.calls.kinds scope.tables (plain_block m.block m.shape)) → IsPlainOf made r
+      → IfOk r (IsFit scope.calls.kinds scope.tables)
+  plain_fits (Ok m) (Ok block) h e = subst (IsFit scope.calls.kinds scope.tables) (sym e) h
+  plain_fits (Ok m) (Err f) h e = tt
+  plain_fits (Err f) (Ok block) h e = absurd e
+  plain_fits (Err f) (Err g) h e = tt
+
+  pub plain_bound : (r : Result Block BindFault) → IsPlainAnswer r → IfOk r (IsBound scope s)
+  plain_bound (Ok block) h = h
+  plain_bound (Err f) h = tt
+
+  pub plain_reachable : (r : Result Block BindFault) → IsPlainAnswer r → IfOk r IsReachable
+  plain_reachable (Ok block) h = h.reachable
+  plain_reachable (Err f) h = tt
+
+  pub plain_fault : (r : Result Block BindFault) → IsPlainAnswer r → IfErr r (λ f. f ≢ fault.Memory → IsBindFault scope s f)
+  plain_fault (Ok block) h = tt
+  plain_fault (Err f) (inl e) = λ other. absurd (other e)
+  plain_fault (Err f) (inr h) = λ other. h
+
   -- each clause of an answer
-  pub every_bound : (r : Result Block BindFault) → IsAnswer scope s r → (block : Block) → IsBound scope s block
-      → MatchResult r (λ found. found ≡ block) (λ f. f ≡ fault.Memory)
+  pub every_bound : (r : Result Block BindFault) → IsPlainAnswer r
+      → (block : Block) → IsBound scope s block → MatchResult r (λ found. found ≡ block) (λ f. f ≡ fault.Memory)
   every_bound (Ok found) h block bound = one_block found block h bound
   every_bound (Err f) (inl e) block bound = e
   every_bound (Err f) (inr h) block bound = absurd (no_fault block f bound h)
 
-  pub every_fault : (r : Result Block BindFault) → IsAnswer scope s r → (f : BindFault) → IsBindFault scope s f
-      → MatchResult r (λ block. ⊥) (λ found. (found ≡ f) ⊎ (found ≡ fault.Memory))
+  pub every_fault : (r : Result Block BindFault) → IsPlainAnswer r
+      → (f : BindFault) → IsBindFault scope s f → MatchResult r (λ block. ⊥) (λ found. (found ≡ f) ⊎ (found ≡ fault.Memory))
   every_fault (Ok block) h f told = no_fault block f h told
   every_fault (Err g) (inl e) f told = inr e
   every_fault (Err g) (inr h) f told = inl (one_fault g f h told)
+
+  pub shape_bound : (r : Result Shaped BindFault) → IsAnswer scope s r → IfOk r (IsBoundShape scope s)
+  shape_bound (Ok made) h = bound_shape made h
+  shape_bound (Err f) h = tt
+
+  pub shape_reachable : (r : Result Shaped BindFault) → IsAnswer scope s r → IfOk r (λ made. IsReachable made.block)
+  shape_reachable (Ok made) h = (bound_shape made h).reachable
+  shape_reachable (Err f) h = tt
+
+  pub shape_unordered : (r : Result Shaped BindFault) → IsAnswer scope s r → IfOk r (λ made. made.block.order ≡ [])
+  shape_unordered (Ok made) h = unordered made h
+  shape_unordered (Err f) h = tt
+
+  pub told_fault : (r : Result Shaped BindFault) → IsAnswer scope s r → IfErr r (λ f. f ≢ fault.Memory → IsBindFault scope s f)
+  told_fault (Ok made) h = tt
+  told_fault (Err f) (inl e) = λ other. absurd (other e)
+  told_fault (Err f) (inr h) = λ other. h
+
+  pub every_shape : (r : Result Shaped BindFault) → IsAnswer scope s r → (shaped : Shaped) → IsBoundShape scope s shaped
+      → MatchResult r (λ found. found ≡ shaped) (λ f. f ≡ fault.Memory)
+  every_shape (Ok found) h shaped bound = one_shape found shaped (bound_shape found h) bound
+  every_shape (Err f) (inl e) shaped bound = e
+  every_shape (Err f) (inr h) shaped bound = absurd (no_fault_shape shaped f bound h)
+
+  pub every_shape_fault : (r : Result Shaped BindFault) → IsAnswer scope s r → (f : BindFault) → IsBindFault scope s f
+      → MatchResult r (λ made. ⊥) (λ found. (found ≡ f) ⊎ (found ≡ fault.Memory))
+  every_shape_fault (Ok made) h f told = no_fault_shape made f (bound_shape made h) told
+  every_shape_fault (Err g) (inl e) f told = inr e
+  every_shape_fault (Err g) (inr h) f told = inl (one_fault g f h told)
 
   -- ---- the rounds
 
@@ -247,8 +388,8 @@ module _ (scope : Scope) (s : Statement) where
   rest_answer from f (inr e) = inr (inr (from, inl (first_is (rest_faults scope s) f e)))
 
   -- a fault that is handed on
-  pub handed_on : (r : Result Block BindFault) (f : BindFault) → IsErrAnd r (λ given. given ≡ f) → (f ≡ fault.Memory) ⊎ IsBindFault scope s f → IsAnswer scope s r
-  handed_on (Ok block) f h told = absurd h
+  pub handed_on : (r : Result Shaped BindFault) (f : BindFault) → IsErrAnd r (λ given. given ≡ f) → (f ≡ fault.Memory) ⊎ IsBindFault scope s f → IsAnswer scope s r
+  handed_on (Ok made) f h told = absurd h
   handed_on (Err g) f h told = subst (λ (e : BindFault). (e ≡ fault.Memory) ⊎ IsBindFault scope s e) (sym h) told
 
   map_over : {X Y Z : Type 0} (f : X → Y) (g : Y → Z) (xs : List X) → map g (map f xs) ≡ map (λ x. g (f x)) xs
@@ -259,47 +400,63 @@ module _ (scope : Scope) (s : Statement) where
   uses_are found is = ap (λ (f : List (Option ℕ)). map (used_at scope.accesses) f) is
       ∙ map_over (λ (x : Source). scope.table x.table.text) (used_at scope.accesses) s.sources
 
-  pub block_is : (found : List (Option ℕ)) → IsFound scope s.sources found
-      → block_with scope.accesses found (aliases_in scope s) s.order (output_of (aliases_in scope s) s.items) (placed_in scope.calls (aliases_in scope s) s)
-      ≡ block_of scope s
-  unfolding block_of
-  block_is found is = ap with_uses (uses_are found is)
+  pub matches_are : (found : List (Option ℕ)) → IsFound scope s.sources found
+      → matches_with scope.accesses found (aliases_in scope s) (placed_in scope.calls (aliases_in scope s) s) ≡ matches_of scope s
+  unfolding matches_of
+  matches_are found is = ap with_uses (uses_are found is)
     where
       with_uses : List AliasUse → Block
       with_uses uses = record {
         aliases = uses;
         conjuncts = map placed_conjunct (placed_in scope.calls (aliases_in scope s) s);
-        output = output_of (aliases_in scope s) s.items;
-        order = map (key_of (aliases_in scope s) (output_of (aliases_in scope s) s.items)) s.order;
+        output = first_output (aliases_in scope s) ∷ [];
+        order = [];
       }
 
-  length-block : length (block_of scope s).aliases ≡ length s.sources
-  unfolding block_of
-  length-block = length-map s.sources (use_of scope)
+  length-matches : length (matches_of scope s).aliases ≡ length s.sources
+  unfolding matches_of
+  length-matches = length-map s.sources (use_of scope)
 
-  pub few_uses : from_faults scope s.sources ≡ [] → (block : Block) → block ≡ block_of scope s → length block.aliases ≤ 12
-  few_uses from block is =
-      let same = ap (λ (b : Block). length b.aliases) is ∙ length-block in
+  length-block : length (block_of scope s).aliases ≡ length s.sources
+  unfolding plain_block
+  length-block = length-matches
+
+  pub few_uses : from_faults scope s.sources ≡ [] → (made : Shaped) → made.block ≡ matches_of scope s → length made.block.aliases ≤ 12
+  few_uses from made is =
+      let same = ap (λ (b : Block). length b.aliases) is ∙ length-matches in
       let few = few_sources from in
       omega (arith, same, few)
 
-  -- what the reach of a block says of the statement
+  pub made_is : (made : Shaped) → made.block ≡ matches_of scope s → made.shape ≡ shape_in (aliases_in scope s) s → made ≡ shaped_of scope s
+  made_is made e f =
+      ap (λ (b : Block). together b made.shape) e ∙ ap (λ (x : Shape). together (matches_of scope s) x) f
+    where
+      together : Block → Shape → Shaped
+      together b x = record { block = b; shape = x }
+
+  -- where nothing else is unreached, the plain block isn't
+  unreached_is : (o : Option ℕ) → first_unreached (matches_of scope s) ≡ o → first_unreached (block_of scope s) ≡ o
+  unfolding plain_block first_unreached
+  unreached_is o e = e
+
+  -- what the reach of the matches says of the statement
   pub reach_answer : from_faults scope s.sources ≡ [] → first_of (rest_faults scope s) ≡ None → 0 < length s.sources
-      → (block : Block) → block ≡ block_of scope s → (r : Result Block BindFault)
-      → IfOk r (λ found. found ≡ block) → IfOk r (λ found. first_unreached block ≡ None)
-      → IfErr r (λ f. (f ≡ fault.Memory) ⊎ ((alias : ℕ) × ((f ≡ fault.Unreachable alias) × (first_unreached block ≡ Some alias)))) → IsAnswer scope s r
-  reach_answer from rest some block is (Ok found) same reached told =
+      → (made : Shaped) → made ≡ shaped_of scope s → (r : Result Shaped BindFault)
+      → IfOk r (λ found. found ≡ made) → IfOk r (λ found. first_unreached made.block ≡ None)
+      → IfErr r (λ f. (f ≡ fault.Memory) ⊎ ((alias : ℕ) × ((f ≡ fault.Unreachable alias) × (first_unreached made.block ≡ Some alias)))) → IsAnswer scope s r
+  reach_answer from rest some made is (Ok found) same reached told =
       let any : 0 < length (block_of scope s).aliases = (let l = length-block in omega (arith, some, l)) in
       record {
         from = from;
         rest = none_first (rest_faults scope s) rest;
         is = same ∙ is;
-        reachable = subst IsReachable (sym (same ∙ is)) (all_reached (block_of scope s) any (ap first_unreached (sym is) ∙ reached));
+        reachable = all_reached (block_of scope s) any (unreached_is None (ap (λ (m : Shaped). first_unreached m.block) (sym is) ∙ reached));
       }
-  reach_answer from rest some block is (Err f) same reached (inl e) = inl e
-  reach_answer from rest some block is (Err f) same reached (inr u) =
+  reach_answer from rest some made is (Err f) same reached (inl e) = inl e
+  reach_answer from rest some made is (Err f) same reached (inr u) =
       let any : 0 < length (block_of scope s).aliases = (let l = length-block in omega (arith, some, l)) in
-      inr (inr (from, inr (none_first (rest_faults scope s) rest, (u.0, u.1.0, unreached (block_of scope s) u.0 any (ap first_unreached (sym is) ∙ u.1.1)))))
+      let at = unreached_is (Some u.0) (ap (λ (m : Shaped). first_unreached m.block) (sym is) ∙ u.1.1) in
+      inr (inr (from, inr (none_first (rest_faults scope s) rest, (u.0, u.1.0, unreached (block_of scope s) u.0 any at))))
 
   -- the block fits
   each_within : (P : ℕ → Type 0) (sources : List Source) → All (λ (one : Option ℕ). IfSome one P) (map (λ (x : Source). scope.table x.table.text) sources)
@@ -311,18 +468,41 @@ module _ (scope : Scope) (s : Statement) where
         each_within P more (All-tail (λ (one : Option ℕ). IfSome one P) (scope.table x.table.text) rest h),
       )
 
-  pub fit_answer : IsSound s → AreAccesses scope.tables scope.accesses → (found : List (Option ℕ)) → IsFound scope s.sources found
+  -- what was made fits, and the plain block of it
+  pub record Fits (made : Shaped) : Type 0 where
+    pub plain : IsFit scope.calls.kinds scope.tables (plain_block made.block made.shape)
+    pub block : IsFit scope.calls.kinds scope.tables made.block
+    pub shape : FitsShape scope.tables made.block made.shape
+
+  pub fit_made : IsSound s → AreAccesses scope.tables scope.accesses → (found : List (Option ℕ)) → IsFound scope s.sources found
       → All (λ (one : Option ℕ). IfSome one (λ (table : ℕ). table < length scope.tables)) found
       → All (λ (a : Alias). 0 < length a.columns) (aliases_in scope s)
       → from_faults scope s.sources ≡ [] → first_of (rest_faults scope s) ≡ None
-      → (block : Block) → block ≡ block_of scope s → (r : Result Block BindFault) → IfOk r (λ found. found ≡ block) → IfOk r (IsFit scope.calls.kinds scope.tables)
-  fit_answer sound accesses found is within some from rest block same (Ok b) e =
-      subst (IsFit scope.calls.kinds scope.tables) (sym (e ∙ same))
-      (block_fits scope s sound accesses
-      (each_within (λ (table : ℕ). table < length scope.tables) s.sources
-      (subst (All (λ (one : Option ℕ). IfSome one (λ (table : ℕ). table < length scope.tables))) is within))
-      (recursion_from_All (λ (a : Alias). 0 < length a.columns) (aliases_in scope s) some) from (none_first (rest_faults scope s) rest))
-  fit_answer sound accesses found is within some from rest block same (Err f) e = tt
+      → (made : Shaped) → made ≡ shaped_of scope s → Fits made
+  fit_made sound accesses found is within some from rest made same =
+      let each = each_within (λ (table : ℕ). table < length scope.tables) s.sources
+      (subst (All (λ (one : Option ℕ). IfSome one (λ (table : ℕ). table < length scope.tables))) is within) in
+      let there = recursion_from_All (λ (a : Alias). 0 < length a.columns) (aliases_in scope s) some in
+      let h = held scope s from in
+      let fine = faultless scope s sound there h (none_first (rest_faults scope s) rest) in
+      let both = both_fit scope s sound accesses each from h fine in
+      subst Fits (sym same) (record { plain = both.plain; block = both.matches; shape = shape_fits scope s h fine })
+
+  -- and so it does where it is handed on
+  pub fit_plain : (made : Shaped) → Fits made → (r : Result Shaped BindFault) → IfOk r (λ found. found ≡ made)
+      → IfOk r (λ found. IsFit scope.calls.kinds scope.tables (plain_block found.block found.shape))
+  fit_plain made h (Ok found) e = subst (λ (m : Shaped). IsFit scope.calls.kinds scope.tables (plain_block m.block m.shape)) (sym e) h.plain
+  fit_plain made h (Err f) e = tt
+
+  pub fit_block : (made : Shaped) → Fits made → (r : Result Shaped BindFault) → IfOk r (λ found. found ≡ made)
+      → IfOk r (λ found. IsFit scope.calls.kinds scope.tables found.block)
+  fit_block made h (Ok found) e = subst (λ (m : Shaped). IsFit scope.calls.kinds scope.tables m.block) (sym e) h.block
+  fit_block made h (Err f) e = tt
+
+  pub fit_shape : (made : Shaped) → Fits made → (r : Result Shaped BindFault) → IfOk r (λ found. found ≡ made)
+      → IfOk r (λ found. FitsShape scope.tables found.block found.shape)
+  fit_shape made h (Ok found) e = subst (λ (m : Shaped). FitsShape scope.tables m.block m.shape) (sym e) h.shape
+  fit_shape made h (Err f) e = tt
 
   -- there is one
   pub some_answer : 0 < length s.sources → ((block : Block) × IsBound scope s block) ⊎ ((f : BindFault) × IsBindFault scope s f)
@@ -347,3 +527,14 @@ module _ (scope : Scope) (s : Statement) where
           → ((block : Block) × IsBound scope s block) ⊎ ((f : BindFault) × IsBindFault scope s f)
       by None e = rest' (none_first (from_faults scope s.sources) e) (first_of (rest_faults scope s)) refl
       by (Some f) e = inr (f, inl (first_is (from_faults scope s.sources) f e))
+
+  -- and a block and a shape, or a fault
+  pub some_shape : 0 < length s.sources → ((shaped : Shaped) × IsBoundShape scope s shaped) ⊎ ((f : BindFault) × IsBindFault scope s f)
+  some_shape some = by (some_answer some)
+    where
+      by : ((block : Block) × IsBound scope s block) ⊎ ((f : BindFault) × IsBindFault scope s f)
+          → ((shaped : Shaped) × IsBoundShape scope s shaped) ⊎ ((f : BindFault) × IsBindFault scope s f)
+      by (inl (block, h)) =
+          inl (shaped_of scope s,
+          bound_shape (shaped_of scope s) (record { from = h.from; rest = h.rest; is = refl; reachable = subst IsReachable h.is h.reachable }))
+      by (inr told) = inr told

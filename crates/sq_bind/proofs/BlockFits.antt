@@ -1,6 +1,6 @@
 -- The block of a statement without a fault fits.
-use Rattle.std.proofs.Common.{◌≡◌, ℕ, zero, suc, ◌+◌, ◌<◌, ◌≤◌, Bool, true, false, List, [], ◌∷◌, ◌++◌, length, map, take, filter, Option, Some, None, Result, Ok, Err, refl, ap, sym, subst, ◌∙◌, arith, if◌then◌else◌}
-use Rattle.std.specs.Prelude.{All, slice_get, slice_index_or, unwrap_or, IfSome, IsSome, option_and_then, ⊤}
+use Rattle.std.proofs.Common.{◌≡◌, cond, ℕ, zero, suc, ◌+◌, ◌<◌, ◌≤◌, Bool, true, false, List, [], ◌∷◌, ◌++◌, length, map, take, filter, Option, Some, None, Result, Ok, Err, refl, ap, sym, subst, ◌∙◌, arith, if◌then◌else◌}
+use Rattle.std.specs.Prelude.{All, not, slice_get, slice_index_or, unwrap_or, IfSome, IsSome, option_and_then, ⊤}
 use Rattle.std.specs.List.{flat_map, list_all, AllByRecursion as Each}
 use Rattle.std.specs.Option.{option_map, option_map_or}
 use Rattle.std.proofs.lemmas.List.{length-map}
@@ -8,6 +8,8 @@ use Rattle.std.proofs.lemmas.List.Elements.{All-from_recursion, All-head, All-ta
 use Rattle.sq_value.specs.Name.{is_same_name}
 use Rattle.sq_value.specs.Relation.{Relation}
 use Rattle.sq_value.specs.declared.value.ColType.{ColType}
+use Rattle.sq_value.specs.declared.value.ColType.TheVariants as col
+use Rattle.sq_value.specs.declared.value.SortWay.{SortWay}
 use Rattle.sq_value.specs.declared.table.Column.{Column}
 use Rattle.sq_parse.specs.declared.tree.Name.{Name}
 use Rattle.sq_parse.specs.declared.tree.ColRef.{ColRef}
@@ -19,24 +21,31 @@ use Rattle.sq_parse.specs.declared.tree.Source.{Source}
 use Rattle.sq_parse.specs.declared.tree.Tree.{Tree}
 use Rattle.sq_parse.specs.declared.tree.OrderItem.{OrderItem}
 use Rattle.sq_parse.specs.declared.tree.Statement.{Statement}
-use Rattle.sq_expr.specs.Fits.{column_kind, kind_in, FitsHere, FitsAlias, FitsConjunct, tables_used, aliases_of, IsFit}
+use Rattle.sq_expr.specs.Fits.{Numbers, class_of, column_kind, kind_in, FitsHere, FitsAlias, FitsConjunct, tables_used, aliases_of, IsFit}
 use Rattle.sq_expr.specs.declared.cond.ColumnOf.{ColumnOf}
 use Rattle.sq_expr.specs.declared.cond.Cond.{every-Cond}
 use Rattle.sq_expr.specs.declared.block.AliasUse.{AliasUse}
 use Rattle.sq_expr.specs.declared.block.OutCol.{OutCol}
 use Rattle.sq_expr.specs.declared.block.OrderKey.{OrderKey}
+use Rattle.sq_expr.specs.declared.block.Block.{Block}
+use Rattle.sq_expr.specs.declared.shape.AggKind.{AggKind}
+use Rattle.sq_expr.specs.declared.shape.AggKind.TheVariants as agg
+use Rattle.sq_expr.specs.declared.shape.Cell.{Cell}
+use Rattle.sq_expr.specs.declared.shape.SortOn.{SortOn}
+use Rattle.sq_expr.specs.declared.shape.SortOn.TheVariants as sort
+use Rattle.sq_expr.specs.declared.shape.ShapeOrder.{ShapeOrder}
 use Rattle.sq_expr.proofs.OccurLemmas.{every-occurs}
 use Rattle.sq_expr.proofs.WeakerLemmas.{every-also}
 use Rattle.sq_bind.specs.Visible.{Alias, called, meant}
-use Rattle.sq_bind.specs.Operand.{column_faults}
+use Rattle.sq_bind.specs.Operand.{is_text, column_faults, number_faults}
 use Rattle.sq_bind.specs.Condition.{extra_faults, conjunct_faults}
-use Rattle.sq_bind.specs.Statement.{Scope, from_faults, source_faults, sources_faults, table_faults, alias_faults, thirteenth_faults, table_number, columns_at, aliases_from, aliases_in, outputs_from, columns_of, named_column, called_columns, called_faults, item_columns, item_faults, output_of, output_faults, is_same_column, output_column, column_meant, sorted_column, candidates, order_column, order_faults, order_key, Part, part_seeing, joins_from, parts_of, part_conjuncts, part_faults, placed_in, key_faults, faults_among, rest_faults, placed_conjunct, scanned, used, use_of, key_of, block_of}
+use Rattle.sq_bind.specs.Statement.{Scope, from_faults, source_faults, sources_faults, table_faults, alias_faults, thirteenth_faults, table_number, columns_at, aliases_from, aliases_in, plain_cell, cells_from, columns_of, named_column, called_columns, called_faults, agg_cell, first_column, grouping_column, agg_of, agg_cells, summed_faults, agg_faults, item_cells, item_faults, cells_of, selected_faults, group_faults, grouped_faults, is_same_cell, column_meant, sorted_on, has_name, candidates, first_named, order_on, Sorting, sorting_of, order_faults, order_key, Part, part_seeing, joins_from, parts_of, part_conjuncts, part_faults, placed_in, key_faults, faults_among, rest_faults, placed_conjunct, scanned, used, use_of, key_of, shape_in, first_output, matches_of, output_column, column_at, sort_column, key_by, plain_key, plain_block, block_of}
 use Rattle.sq_bind.specs.Given.{AreAccesses}
 use Rattle.sq_bind.specs.Sound.{IsSound, IsSoundTree, IsSoundList}
 use Rattle.sq_bind.specs.declared.conjunct.Placed.{Placed}
 use Rattle.sq_bind.specs.declared.visible.Resolved.{Resolved}
 use Rattle.sq_bind.specs.declared.fault.BindFault.{BindFault}
-use Rattle.sq_bind.specs.declared.fault.BindFault.TheVariants.{AmbiguousColumn}
+use Rattle.sq_bind.specs.declared.fault.BindFault.TheVariants.{AmbiguousColumn, TypeMismatch}
 use Rattle.sq_parse.specs.Tree.{column_place}
 use Rattle.sq_bind.proofs.HeldLemmas.{at_column, ColumnsHave, AliasHas, meant_has, called_held, each_append, each_flat}
 use Rattle.sq_bind.proofs.OperandFits.{both_empty, each_empty}
@@ -45,15 +54,15 @@ use Rattle.sq_bind.proofs.SpanLemmas.{span_holds}
 
 -- ---- lists
 
-each_map : {X Y : Type 0} (P : Y → Type 0) (f : X → Y) (xs : List X) → Each (λ x. P (f x)) xs → Each P (map f xs)
+pub each_map : {X Y : Type 0} (P : Y → Type 0) (f : X → Y) (xs : List X) → Each (λ x. P (f x)) xs → Each P (map f xs)
 each_map P f [] h = tt
 each_map P f (x ∷ xs) h = (h.0, each_map P f xs h.1)
 
-each_also : {X : Type 0} (P Q : X → Type 0) (xs : List X) → ((x : X) → P x → Q x) → Each P xs → Each Q xs
+pub each_also : {X : Type 0} (P Q : X → Type 0) (xs : List X) → ((x : X) → P x → Q x) → Each P xs → Each Q xs
 each_also P Q [] f h = tt
 each_also P Q (x ∷ xs) f h = (f x h.0, each_also P Q xs f h.1)
 
-each_both : {X : Type 0} (P Q R : X → Type 0) (xs : List X) → ((x : X) → P x → Q x → R x) → Each P xs → Each Q xs → Each R xs
+pub each_both : {X : Type 0} (P Q R : X → Type 0) (xs : List X) → ((x : X) → P x → Q x → R x) → Each P xs → Each Q xs → Each R xs
 each_both P Q R [] f h k = tt
 each_both P Q R (x ∷ xs) f h k = (f x h.0 k.0, each_both P Q R xs f h.1 k.1)
 
@@ -62,7 +71,7 @@ each_take P zero xs h = tt
 each_take P (suc n) [] h = tt
 each_take P (suc n) (x ∷ xs) h = (h.0, each_take P n xs h.1)
 
-each_filter : {X : Type 0} (P : X → Type 0) (p : X → Bool) (xs : List X) → Each P xs → Each P (filter p xs)
+pub each_filter : {X : Type 0} (P : X → Type 0) (p : X → Bool) (xs : List X) → Each P xs → Each P (filter p xs)
 each_filter P p [] h = tt
 each_filter P p (x ∷ xs) h = by (p x) (each_filter P p xs h.1)
   where
@@ -79,12 +88,12 @@ none_past [] n e = omega arith
 none_past (x ∷ xs) zero e = absurd cc
 none_past (x ∷ xs) (suc n) e = let h = none_past xs n e in omega (arith, h)
 
-get_at : {X : Type 0} (xs : List X) (k : ℕ) (d : X) → k < length xs → slice_get xs k ≡ Some (slice_index_or xs k d)
+pub get_at : {X : Type 0} (xs : List X) (k : ℕ) (d : X) → k < length xs → slice_get xs k ≡ Some (slice_index_or xs k d)
 get_at [] k d low = absurd (omega (arith, low))
 get_at (x ∷ xs) zero d low = refl
 get_at (x ∷ xs) (suc k) d low = get_at xs k d (omega (arith, low))
 
-some_is : {X : Type 0} (o : Option X) (x : X) → o ≡ Some x → IsSome o
+pub some_is : {X : Type 0} (o : Option X) (x : X) → o ≡ Some x → IsSome o
 some_is None x e = absurd cc
 some_is (Some y) x e = refl
 
@@ -94,8 +103,8 @@ length-aliases scope first (s ∷ more) = ap (λ n. suc n) (length-aliases scope
 
 -- ---- columns of the aliases
 
-column_at : (tables : List Relation) (table k : ℕ) (c : Column) → slice_get (columns_at tables table) k ≡ Some c → column_kind tables table k ≡ Some c.kind
-column_at tables table k c e = by (slice_get tables table) refl e
+kind_at : (tables : List Relation) (table k : ℕ) (c : Column) → slice_get (columns_at tables table) k ≡ Some c → column_kind tables table k ≡ Some c.kind
+kind_at tables table k c e = by (slice_get tables table) refl e
   where
     by : (o : Option Relation) → slice_get tables table ≡ o → slice_get (option_map_or (λ (t : Relation). t.columns) o []) k ≡ Some c
         → option_map (λ (c : Column). c.kind) (option_and_then (λ (t : Relation). slice_get t.columns k) (slice_get tables table)) ≡ Some c.kind
@@ -116,7 +125,7 @@ module _ (scope : Scope) (uses : List ℕ) where
     (
       low,
       ap (λ (o : Option ℕ). option_and_then (λ (table : ℕ). column_kind scope.tables table from) o) used'
-          ∙ column_at scope.tables table from c (ap (slice_get (columns_at scope.tables table)) (omega arith) ∙ at 0),
+          ∙ kind_at scope.tables table from c (ap (slice_get (columns_at scope.tables table)) (omega arith) ∙ at 0),
     ),
     columns_have alias table low used' (from + 1) cs (λ k. ap (slice_get (columns_at scope.tables table)) (omega arith) ∙ at (suc k)),
   )
@@ -143,73 +152,155 @@ module _ (scope : Scope) (uses : List ℕ) (aliases : List Alias) (held : Each (
   there : (c : ColumnOf) (k : ColType) → has c k → IsThere c
   there c k h = some_is (kind_in scope.tables uses c) k h.1
 
-  abbrev pub OutThere : OutCol → Type 0
-  OutThere o = IsThere (record { alias = o.alias; column = o.column })
+  -- what a cell shows is there, and a sum is of numbers
+  abbrev pub IsSummed : Option AggKind → ColumnOf → Type 0
+  IsSummed None c = ⊤
+  IsSummed (Some agg.CountAll) c = ⊤
+  IsSummed (Some agg.Count) c = ⊤
+  IsSummed (Some agg.Sum) c = (k : ColType) × ((kind_in scope.tables uses c ≡ Some k) × (class_of k ≡ Numbers))
+  IsSummed (Some agg.Min) c = ⊤
+  IsSummed (Some agg.Max) c = ⊤
 
-  columns_there : (alias first : ℕ) (cs : List Column) → ColumnsHave has alias first cs → Each OutThere (outputs_from alias first cs)
-  unfolding outputs_from
+  abbrev pub CellThere : Cell → Type 0
+  CellThere c = IsThere c.column × IsSummed c.agg c.column
+
+  columns_there : (alias first : ℕ) (cs : List Column) → ColumnsHave has alias first cs → Each CellThere (cells_from alias first cs)
+  unfolding cells_from
   columns_there alias first [] h = tt
-  columns_there alias first (c ∷ cs) h = (there (at_column has alias first) c.kind h.0, columns_there alias (first + 1) cs h.1)
+  columns_there alias first (c ∷ cs) h =
+      ((there (at_column has alias first) c.kind h.0, tt), columns_there alias (first + 1) cs h.1)
 
-  alias_there : (a : Alias) → AliasHas has a → Each OutThere (columns_of a)
+  alias_there : (a : Alias) → AliasHas has a → Each CellThere (columns_of a)
   alias_there a h = columns_there a.number 0 a.columns h
 
-  meant_there : (name : Option Name) (c : ColRef) (r : Result Resolved BindFault) → meant aliases c ≡ r → Each OutThere (named_column aliases name r)
-  meant_there name c (Err f) e = tt
-  meant_there None c (Ok m) e = (there m.column m.kind (meant_has has aliases held c m e), tt)
-  meant_there (Some n) c (Ok m) e = (there m.column m.kind (meant_has has aliases held c m e), tt)
+  meant_is : (c : ColRef) (m : Resolved) → meant aliases c ≡ Ok m → IsThere m.column
+  meant_is c m e = there m.column m.kind (meant_has has aliases held c m e)
 
-  called_there : (name : List ℕ) (o : Option Alias) → called name aliases ≡ o → Each OutThere (called_columns o)
+  meant_there : (name : Option Name) (c : ColRef) (r : Result Resolved BindFault) → meant aliases c ≡ r → Each CellThere (named_column aliases name r)
+  meant_there name c (Err f) e = tt
+  meant_there None c (Ok m) e = ((meant_is c m e, tt), tt)
+  meant_there (Some n) c (Ok m) e = ((meant_is c m e, tt), tt)
+
+  called_there : (name : List ℕ) (o : Option Alias) → called name aliases ≡ o → Each CellThere (called_columns o)
   called_there name None e = tt
   called_there name (Some a) e = alias_there a (called_held has (AliasHas has) name aliases a held e)
 
-  item_there : (i : Item) → Each OutThere (item_columns aliases i)
-  unfolding item_columns
-  item_there (item.AllOf name) = called_there name.text (called name.text aliases) refl
-  item_there (item.Col c name) = meant_there name c (meant aliases c) refl
+  -- a set function's column, where it has no fault
+  number_class : (k : ColType) (at : ℕ) → (if is_text k then TypeMismatch at ∷ [] else []) ≡ [] → class_of k ≡ Numbers
+  number_class col.Integer at e = refl
+  number_class col.Text at e = absurd cc
+  number_class (col.Decimal scale) at e = refl
 
-  items_there : (list : List Item) → Each OutThere (flat_map (item_columns aliases) list)
-  items_there [] = tt
-  items_there (i ∷ list) = each_append OutThere (item_columns aliases i) (flat_map (item_columns aliases) list) (item_there i) (items_there list)
+  agg_there : (kind : AggKind) (name : Option Name) (c : ColRef) (r : Result Resolved BindFault) → meant aliases c ≡ r
+      → summed_faults kind (column_place c) r ≡ [] → Each CellThere (agg_of kind name r)
+  agg_there kind name c (Err f) is e = tt
+  agg_there agg.CountAll name c (Ok m) is e = ((meant_is c m is, tt), tt)
+  agg_there agg.Count name c (Ok m) is e = ((meant_is c m is, tt), tt)
+  agg_there agg.Sum name c (Ok m) is e =
+      let has' = meant_has has aliases held c m is in
+      ((meant_is c m is, (m.kind, has'.1, number_class m.kind (column_place c) e)), tt)
+  agg_there agg.Min name c (Ok m) is e = ((meant_is c m is, tt), tt)
+  agg_there agg.Max name c (Ok m) is e = ((meant_is c m is, tt), tt)
 
-  star_there : (these : List Alias) → Each (AliasHas has) these → Each OutThere (flat_map columns_of these)
+  agg_cells_there : IsThere first_column → (kind : AggKind) (name : Option Name) (c : Option ColRef)
+      → agg_faults aliases kind c ≡ [] → Each CellThere (agg_cells aliases kind name c)
+  agg_cells_there first kind name None e = ((first, tt), tt)
+  agg_cells_there first kind name (Some c) e = agg_there kind name c (meant aliases c) refl e
+
+  item_there : IsThere first_column → (i : Item) → item_faults aliases i ≡ [] → Each CellThere (item_cells aliases i)
+  unfolding item_cells item_faults
+  item_there first (item.AllOf name) e = called_there name.text (called name.text aliases) refl
+  item_there first (item.Col c name) e = meant_there name c (meant aliases c) refl
+  item_there first (item.Agg at kind c name) e = agg_cells_there first kind name c e
+
+  items_there : IsThere first_column → (list : List Item) → flat_map (item_faults aliases) list ≡ [] → Each CellThere (flat_map (item_cells aliases) list)
+  items_there first [] e = tt
+  items_there first (i ∷ list) e =
+      let both = both_empty (item_faults aliases i) (flat_map (item_faults aliases) list) e in
+      each_append CellThere (item_cells aliases i) (flat_map (item_cells aliases) list) (item_there first i both.0) (items_there first list both.1)
+
+  star_there : (these : List Alias) → Each (AliasHas has) these → Each CellThere (flat_map columns_of these)
   star_there [] h = tt
-  star_there (a ∷ these) h = each_append OutThere (columns_of a) (flat_map columns_of these) (alias_there a h.0) (star_there these h.1)
+  star_there (a ∷ these) h = each_append CellThere (columns_of a) (flat_map columns_of these) (alias_there a h.0) (star_there these h.1)
 
-  pub output_there : (i : Items) → Each OutThere (output_of aliases i)
-  unfolding output_of
-  output_there items.Star = star_there aliases held
-  output_there (items.List list) = items_there list
+  pub cells_there : IsThere first_column → (i : Items) → selected_faults aliases i ≡ [] → Each CellThere (cells_of aliases i)
+  unfolding cells_of selected_faults
+  cells_there first items.Star e = star_there aliases held
+  cells_there first (items.List list) e = items_there first list e
 
   -- ORDER BY
-  sorted_there : (c : ColRef) (xs : List OutCol) → Each OutThere xs → (d : ColumnOf) → sorted_column aliases c xs ≡ Ok d → IsThere d
-  sorted_there c [] h d e = by (meant aliases c) refl e
+  abbrev pub OnThere : List Cell → SortOn → Type 0
+  OnThere cells (sort.Cell place) = place < length cells
+  OnThere cells (sort.Column c) = IsThere c
+
+  meant_on : (cells : List Cell) (c : ColRef) (r : Result Resolved BindFault) (on : SortOn) → meant aliases c ≡ r → column_meant r ≡ Ok on → OnThere cells on
+  meant_on cells c (Ok m) on is e = let same : sort.Column m.column ≡ on = cc in subst (OnThere cells) same (meant_is c m is)
+  meant_on cells c (Err f) on is e = absurd cc
+
+  named_within : (name : List ℕ) (cells : List Cell) → 0 < length (filter (has_name name) cells) → first_named cells name < length cells
+  named_within name [] h = absurd (omega (arith, h))
+  named_within name (c ∷ cells) h = by (has_name name c) (named_within name cells) h
     where
-      by : (r : Result Resolved BindFault) → meant aliases c ≡ r → column_meant r ≡ Ok d → IsThere d
-      by (Ok m) is e = let same : m.column ≡ d = cc in subst IsThere same (there m.column m.kind (meant_has has aliases held c m is))
-      by (Err f) is e = absurd cc
-  sorted_there c (x ∷ more) h d e = by (list_all (is_same_column x) more) e
+      by : (b : Bool) → (0 < length (filter (has_name name) cells) → first_named cells name < length cells)
+          → 0 < length (if b then c ∷ filter (has_name name) cells else filter (has_name name) cells)
+          → cond (not b) (1 + first_named cells name) 0 < suc (length cells)
+      by true again h = omega arith
+      by false again h = let low = again h in omega (arith, low)
+
+  sorted_there : (cells : List Cell) (c : ColRef) (place : ℕ) (xs : List Cell) → (0 < length xs → place < length cells)
+      → (on : SortOn) → sorted_on aliases c place xs ≡ Ok on → OnThere cells on
+  sorted_there cells c place [] low on e = meant_on cells c (meant aliases c) on refl e
+  sorted_there cells c place (x ∷ more) low on e = by (list_all (is_same_cell x) more) e
     where
-      by : (b : Bool) → (if b then Ok (output_column x) else Err (AmbiguousColumn (column_place c))) ≡ Ok d → IsThere d
-      by true e = let same : output_column x ≡ d = cc in subst IsThere same h.0
+      by : (b : Bool) → (if b then Ok (sort.Cell place) else Err (AmbiguousColumn (column_place c))) ≡ Ok on → OnThere cells on
+      by true e = let same : sort.Cell place ≡ on = cc in subst (OnThere cells) same (low (omega arith))
       by false e = absurd cc
 
-  candidates_there : (output : List OutCol) (name : Option Name) (column : List ℕ) → Each OutThere output → Each OutThere (candidates output name column)
-  candidates_there output None column h = each_filter OutThere (λ (c : OutCol). is_same_name c.name column) output h
-  candidates_there output (Some alias) column h = tt
+  candidates_within : (cells : List Cell) (alias : Option Name) (name : List ℕ) → 0 < length (candidates cells alias name) → first_named cells name < length cells
+  candidates_within cells None name h = named_within name cells h
+  candidates_within cells (Some alias) name h = absurd (omega (arith, h))
+
+  pub key_there : (by : Sorting) (key : OrderItem) → key_faults aliases by key ≡ [] → OnThere by.cells (key_of aliases by.cells key).on
+  unfolding key_faults key_of order_on
+  key_there by key e = at (order_on aliases by.cells key.column) refl e
+    where
+      at : (r : Result SortOn BindFault) → order_on aliases by.cells key.column ≡ r → order_faults by (column_place key.column) r ≡ []
+          → OnThere by.cells (order_key r key).on
+      at (Ok on) is e =
+          sorted_there by.cells key.column (first_named by.cells key.column.column.text)
+          (candidates by.cells key.column.alias key.column.column.text)
+          (candidates_within by.cells key.column.alias key.column.column.text) on is
+      at (Err f) is e = absurd cc
+
+  -- the output columns and the keys of a statement that isn't shaped
+  abbrev pub OutThere : OutCol → Type 0
+  OutThere o = IsThere (record { alias = o.alias; column = o.column })
 
   abbrev pub KeyThere : OrderKey → Type 0
   KeyThere k = IsThere (record { alias = k.alias; column = k.column })
 
-  key_there : (output : List OutCol) → Each OutThere output → (key : OrderItem) → key_faults aliases output key ≡ [] → KeyThere (key_of aliases output key)
-  unfolding key_faults key_of order_column
-  key_there output h key e = by (order_column aliases output key.column) refl e
-    where
-      by : (r : Result ColumnOf BindFault) → order_column aliases output key.column ≡ r → order_faults r ≡ [] → KeyThere (order_key r key)
-      by (Ok d) is e =
-          sorted_there key.column (candidates output key.column.alias key.column.column.text)
-          (candidates_there output key.column.alias key.column.column.text h) d is
-      by (Err f) is e = absurd cc
+  pub output_there : (cells : List Cell) → Each CellThere cells → Each OutThere (map output_column cells)
+  output_there [] h = tt
+  output_there (c ∷ cells) h = (h.0.0, output_there cells h.1)
+
+  at_there : IsThere first_column → (cells : List Cell) (place : ℕ) → Each CellThere cells → IsThere (column_at cells place)
+  at_there first [] place h = first
+  at_there first (c ∷ cells) zero h = h.0.0
+  at_there first (c ∷ cells) (suc place) h = at_there first cells place h.1
+
+  sort_there : IsThere first_column → (cells : List Cell) → Each CellThere cells → (on : SortOn) → OnThere cells on → IsThere (sort_column cells on)
+  sort_there first cells h (sort.Cell place) on = at_there first cells place h
+  sort_there first cells h (sort.Column c) on = on
+
+  pub plain_there : IsThere first_column → (cells : List Cell) → Each CellThere cells → (keys : List ShapeOrder)
+      → Each (λ (k : ShapeOrder). OnThere cells k.on) keys → Each KeyThere (map (plain_key cells) keys)
+  plain_there first cells h [] k = tt
+  plain_there first cells h (key ∷ keys) k = (sort_there first cells h key.on k.0, plain_there first cells h keys k.1)
+
+  -- GROUP BY
+  pub grouping_there : (c : ColRef) (r : Result Resolved BindFault) → meant aliases c ≡ r → Each IsThere (grouping_column r)
+  grouping_there c (Ok m) e = (meant_is c m e, tt)
+  grouping_there c (Err f) e = tt
 
   -- conditions
   abbrev Seen : Part → Type 0
@@ -296,10 +387,10 @@ module _ (scope : Scope) where
           subst (λ (o : Option ℕ). FitsAlias scope.tables (used scope.accesses (unwrap_or o 0))) (sym is)
           (accesses.fits n (slice_index_or scope.accesses n scanned) (get_at scope.accesses n scanned low))
 
--- ---- the output
+-- ---- the cells
 
-some_columns : (alias first : ℕ) (cs : List Column) → 0 < length cs → 0 < length (outputs_from alias first cs)
-unfolding outputs_from
+some_columns : (alias first : ℕ) (cs : List Column) → 0 < length cs → 0 < length (cells_from alias first cs)
+unfolding cells_from
 some_columns alias first [] h = h
 some_columns alias first (c ∷ cs) h = omega arith
 
@@ -310,8 +401,21 @@ some_front : {X : Type 0} (xs ys : List X) → 0 < length xs → 0 < length (xs 
 some_front [] ys h = absurd (omega (arith, h))
 some_front (x ∷ xs) ys h = omega arith
 
-item_some : (aliases : List Alias) → Each (λ (a : Alias). 0 < length a.columns) aliases → (i : Item) → item_faults aliases i ≡ [] → 0 < length (item_columns aliases i)
-unfolding item_faults item_columns
+agg_some : (aliases : List Alias) (kind : AggKind) (name : Option Name) (c : Option ColRef) → agg_faults aliases kind c ≡ []
+    → 0 < length (agg_cells aliases kind name c)
+agg_some aliases kind name None e = omega arith
+agg_some aliases kind name (Some c) e = by kind (meant aliases c) e
+  where
+    by : (kind : AggKind) (r : Result Resolved BindFault) → summed_faults kind (column_place c) r ≡ [] → 0 < length (agg_of kind name r)
+    by kind (Ok m) e = omega arith
+    by agg.CountAll (Err f) e = absurd cc
+    by agg.Count (Err f) e = absurd cc
+    by agg.Sum (Err f) e = absurd cc
+    by agg.Min (Err f) e = absurd cc
+    by agg.Max (Err f) e = absurd cc
+
+item_some : (aliases : List Alias) → Each (λ (a : Alias). 0 < length a.columns) aliases → (i : Item) → item_faults aliases i ≡ [] → 0 < length (item_cells aliases i)
+unfolding item_faults item_cells
 item_some aliases some (item.AllOf name) e = by (called name.text aliases) refl e
   where
     by : (o : Option Alias) → called name.text aliases ≡ o → called_faults name.at o ≡ [] → 0 < length (called_columns o)
@@ -322,16 +426,17 @@ item_some aliases some (item.Col c name) e = by name (meant aliases c) e
     by : (n : Option Name) (r : Result Resolved BindFault) → column_faults r ≡ [] → 0 < length (named_column aliases n r)
     by n (Ok m) e = omega arith
     by n (Err f) e = absurd cc
+item_some aliases some (item.Agg at kind c name) e = agg_some aliases kind name c e
 
-pub output_some : (aliases : List Alias) → Each (λ (a : Alias). 0 < length a.columns) aliases → 0 < length aliases → (i : Items) → IsSoundList i
-    → output_faults aliases i ≡ [] → 0 < length (output_of aliases i)
-unfolding output_of output_faults
-output_some [] some any items.Star sound e = absurd (omega (arith, any))
-output_some (a ∷ aliases) some any items.Star sound e = some_front (columns_of a) (flat_map columns_of aliases) (length_columns a some.0)
-output_some aliases some any (items.List []) sound e = absurd (omega (arith, sound))
-output_some aliases some any (items.List (i ∷ list)) sound e =
+pub cells_some : (aliases : List Alias) → Each (λ (a : Alias). 0 < length a.columns) aliases → 0 < length aliases → (i : Items) → IsSoundList i
+    → selected_faults aliases i ≡ [] → 0 < length (cells_of aliases i)
+unfolding cells_of selected_faults
+cells_some [] some any items.Star sound e = absurd (omega (arith, any))
+cells_some (a ∷ aliases) some any items.Star sound e = some_front (columns_of a) (flat_map columns_of aliases) (length_columns a some.0)
+cells_some aliases some any (items.List []) sound e = absurd (omega (arith, sound))
+cells_some aliases some any (items.List (i ∷ list)) sound e =
     let both = both_empty (item_faults aliases i) (flat_map (item_faults aliases) list) e in
-    some_front (item_columns aliases i) (flat_map (item_columns aliases) list) (item_some aliases some i both.0)
+    some_front (item_cells aliases i) (flat_map (item_cells aliases) list) (item_some aliases some i both.0)
 
 -- ---- the block
 
@@ -343,40 +448,96 @@ few_placed placed e = none_past placed 48 (by (slice_get placed 48) e)
     by (Some p) e = absurd cc
 
 module _ (scope : Scope) (s : Statement) where
-  abbrev uses : List ℕ
+  abbrev pub uses : List ℕ
   uses = map (table_number scope) s.sources
 
-  abbrev aliases : List Alias
+  abbrev pub aliases : List Alias
   aliases = aliases_in scope s
 
-  tables-used : tables_used (block_of scope s) ≡ map (table_number scope) s.sources
-  unfolding block_of
-  tables-used = map_map (use_of scope) (λ (u : AliasUse). u.table) s.sources
+  abbrev pub cells : List Cell
+  cells = cells_of aliases s.items
 
-  keys_there : (order : List OrderItem) (output : List OutCol) (held : Each (AliasHas (HasKindIn scope uses)) aliases) → Each (OutThere scope uses aliases held) output
-      → flat_map (key_faults aliases output) order ≡ [] → Each (KeyThere scope uses aliases held) (map (key_of aliases output) order)
-  keys_there [] output held h e = tt
-  keys_there (key ∷ order) output held h e =
-      let both = both_empty (key_faults aliases output key) (flat_map (key_faults aliases output) order) e in
-      (key_there scope uses aliases held output h key both.0, keys_there order output held h both.1)
+  abbrev Holds : Type 0
+  Holds = Each (AliasHas (HasKindIn scope uses)) aliases
 
-  pub block_fits : IsSound s → AreAccesses scope.tables scope.accesses
+  abbrev IsThere' : ColumnOf → Type 0
+  IsThere' c = IsSome (kind_in scope.tables uses c)
+
+  -- the aliases have their columns
+  pub held : from_faults scope s.sources ≡ [] → Holds
+  held from =
+      let few = (first_round scope s.sources from).few in
+      aliases_have scope uses 0 s.sources (omega (arith, few)) (λ k. ap (slice_get uses) (omega arith))
+
+  -- the first alias has a first column
+  first_there : (sources : List Source) → 0 < length sources → Each (AliasHas (HasKindIn scope uses)) (aliases_from scope 0 sources)
+      → Each (λ (a : Alias). 0 < length a.columns) (aliases_from scope 0 sources) → IsThere' first_column
+  first_there [] any h some = absurd (omega (arith, any))
+  first_there (x ∷ more) any h some = by (columns_at scope.tables (table_number scope x)) h.0 some.0
+    where
+      by : (cs : List Column) → ColumnsHave (HasKindIn scope uses) 0 0 cs → 0 < length cs → IsThere' first_column
+      by [] hs some = absurd (omega (arith, some))
+      by (c ∷ cs) hs some = some_is (kind_in scope.tables uses first_column) c.kind hs.0.1
+
+  pub order_there : (h : Holds) (order : List OrderItem) (by : Sorting) → flat_map (key_faults aliases by) order ≡ []
+      → Each (λ (k : ShapeOrder). OnThere scope uses aliases h by.cells k.on) (map (key_of aliases by.cells) order)
+  order_there h [] by e = tt
+  order_there h (key ∷ order) by e =
+      let both = both_empty (key_faults aliases by key) (flat_map (key_faults aliases by) order) e in
+      (key_there scope uses aliases h by key both.0, order_there h order by both.1)
+
+  -- what a statement without a fault has
+  pub record Faultless (h : Holds) : Type 0 where
+    pub first : IsThere' first_column
+    pub conditions : flat_map (part_faults scope.calls) (parts_of aliases s) ≡ []
+    pub few : length (placed_in scope.calls aliases s) ≤ 48
+    pub some : 0 < length cells
+    pub shown : Each (CellThere scope uses aliases h) cells
+    pub order : Each (λ (k : ShapeOrder). OnThere scope uses aliases h cells k.on) (map (key_of aliases cells) s.order)
+    pub grouped : grouped_faults aliases s ≡ []
+
+  pub faultless : IsSound s → Each (λ (a : Alias). 0 < length a.columns) aliases → (h : Holds) → rest_faults scope s ≡ [] → Faultless h
+  unfolding faults_among
+  faultless sound some h rest =
+      let selected = both_empty (selected_faults aliases s.items) _ rest in
+      let conditions = both_empty (flat_map (part_faults scope.calls) (parts_of aliases s)) _ selected.1 in
+      let counted = both_empty (conjunct_faults (placed_in scope.calls aliases s)) _ conditions.1 in
+      let groups = both_empty (flat_map (group_faults aliases) s.groups) _ counted.1 in
+      let grouped = both_empty (grouped_faults aliases s) _ groups.1 in
+      let any : 0 < length aliases = (let l = length-aliases scope 0 s.sources in let n = sound.some_source in omega (arith, l, n)) in
+      let first = first_there s.sources sound.some_source h some in
+      record {
+        first = first;
+        conditions = conditions.0;
+        few = few_placed (placed_in scope.calls aliases s) counted.0;
+        some = cells_some aliases some any s.items sound.items selected.0;
+        shown = cells_there scope uses aliases h first s.items selected.0;
+        order = order_there h s.order (sorting_of aliases s) grouped.1;
+        grouped = grouped.0;
+      }
+
+  -- the block with some output columns and keys
+  abbrev pub block_by : List OutCol → List OrderKey → Block
+  block_by output order = record {
+    aliases = map (use_of scope) s.sources;
+    conjuncts = map placed_conjunct (placed_in scope.calls aliases s);
+    output = output;
+    order = order;
+  }
+
+  pub tables-used : (output : List OutCol) (order : List OrderKey) → tables_used (block_by output order) ≡ uses
+  tables-used output order = map_map (use_of scope) (λ (u : AliasUse). u.table) s.sources
+
+  fits_with : IsSound s → AreAccesses scope.tables scope.accesses
       → Each (λ (source : Source). IfSome (scope.table source.table.text) (λ (table : ℕ). table < length scope.tables)) s.sources
-      → Each (λ (a : Alias). 0 < length a.columns) (aliases_in scope s)
-      → from_faults scope s.sources ≡ [] → rest_faults scope s ≡ [] → IsFit scope.calls.kinds scope.tables (block_of scope s)
-  unfolding faults_among block_of
-  block_fits sound accesses within some from rest =
+      → from_faults scope s.sources ≡ [] → (h : Holds) → Faultless h
+      → (output : List OutCol) (order : List OrderKey) → 0 < length output → Each (OutThere scope uses aliases h) output → Each (KeyThere scope uses aliases h) order
+      → IsFit scope.calls.kinds scope.tables (block_by output order)
+  fits_with sound accesses within from h fine output order some outs keys =
       let first = first_round scope s.sources from in
       let few = first.few in
-      let held : Each (AliasHas (HasKindIn scope uses)) aliases = aliases_have scope uses 0 s.sources (omega (arith, few)) (λ k. ap (slice_get uses) (omega arith)) in
-      let shown = both_empty (output_faults aliases s.items) _ rest in
-      let conditions = both_empty (flat_map (part_faults scope.calls) (parts_of aliases s)) _ shown.1 in
-      let counted = both_empty (conjunct_faults (placed_in scope.calls aliases s)) _ conditions.1 in
       let placed = placed_in scope.calls aliases s in
-      let output = output_of aliases s.items in
-      let there' = output_there scope uses aliases held s.items in
-      let same = tables-used in
-      let any : 0 < length aliases = (let l = length-aliases scope 0 s.sources in let n = sound.some_source in omega (arith, l, n)) in
+      let same = tables-used output order in
       record {
         some_alias = (let l = length-map s.sources (use_of scope) in let n = sound.some_source in omega (arith, l, n));
         few_aliases = (let l = length-map s.sources (use_of scope) in omega (arith, l, few));
@@ -385,15 +546,32 @@ module _ (scope : Scope) (s : Statement) where
             (each_both (λ (source : Source). IsSome (scope.table source.table.text))
             (λ (source : Source). IfSome (scope.table source.table.text) (λ (table : ℕ). table < length scope.tables))
             (λ (source : Source). FitsAlias scope.tables (use_of scope source)) s.sources (use_fits scope accesses) first.found within));
-        few_conjuncts = (let l = length-map placed placed_conjunct in let h = few_placed placed counted.0 in omega (arith, l, h));
+        few_conjuncts = (let l = length-map placed placed_conjunct in let f = fine.few in omega (arith, l, f));
         conjuncts = subst (λ (ts : List ℕ). All (FitsConjunct scope.calls.kinds scope.tables ts) (map placed_conjunct placed)) (sym same)
             (All-from_recursion (FitsConjunct scope.calls.kinds scope.tables uses) (map placed_conjunct placed)
             (each_map (FitsConjunct scope.calls.kinds scope.tables uses) placed_conjunct placed
-            (each_also (Fit scope uses aliases held) (λ p. FitsConjunct scope.calls.kinds scope.tables uses (placed_conjunct p)) placed
-            (conjunct_fits scope uses aliases held) (placed_fit scope uses aliases held s sound conditions.0))));
-        some_output = output_some aliases some any s.items sound.items shown.0;
+            (each_also (Fit scope uses aliases h) (λ p. FitsConjunct scope.calls.kinds scope.tables uses (placed_conjunct p)) placed
+            (conjunct_fits scope uses aliases h) (placed_fit scope uses aliases h s sound fine.conditions))));
+        some_output = some;
         output = subst (λ (ts : List ℕ). All (λ (o : OutCol). IsSome (kind_in scope.tables ts (record { alias = o.alias; column = o.column }))) output) (sym same)
-            (All-from_recursion (OutThere scope uses aliases held) output there');
-        order = subst (λ (ts : List ℕ). All (λ (k : OrderKey). IsSome (kind_in scope.tables ts (record { alias = k.alias; column = k.column }))) (map (key_of aliases output) s.order)) (sym same)
-            (All-from_recursion (KeyThere scope uses aliases held) (map (key_of aliases output) s.order) (keys_there s.order output held there' counted.1));
+            (All-from_recursion (OutThere scope uses aliases h) output outs);
+        order = subst (λ (ts : List ℕ). All (λ (k : OrderKey). IsSome (kind_in scope.tables ts (record { alias = k.alias; column = k.column }))) order) (sym same)
+            (All-from_recursion (KeyThere scope uses aliases h) order keys);
       }
+
+  -- both blocks of a statement fit: the plain one, and that of its matches
+  pub record BothFit : Type 0 where
+    pub plain : IsFit scope.calls.kinds scope.tables (block_of scope s)
+    pub matches : IsFit scope.calls.kinds scope.tables (matches_of scope s)
+
+  pub both_fit : IsSound s → AreAccesses scope.tables scope.accesses
+      → Each (λ (source : Source). IfSome (scope.table source.table.text) (λ (table : ℕ). table < length scope.tables)) s.sources
+      → from_faults scope s.sources ≡ [] → (h : Holds) → Faultless h → BothFit
+  unfolding plain_block matches_of shape_in
+  both_fit sound accesses within from h fine = record {
+    plain = fits_with sound accesses within from h fine (map output_column cells) (map (plain_key cells) (map (key_of aliases cells) s.order))
+        (let l = length-map cells output_column in let n = fine.some in omega (arith, l, n))
+        (output_there scope uses aliases h cells fine.shown)
+        (plain_there scope uses aliases h fine.first cells fine.shown (map (key_of aliases cells) s.order) fine.order);
+    matches = fits_with sound accesses within from h fine (first_output aliases ∷ []) [] (omega arith) (fine.first, tt) tt;
+  }

@@ -14,6 +14,7 @@ mod OperandFits
 mod TreeFits
 mod SpanLemmas
 mod BlockFits
+mod ShapeFits
 pub mod ParsedLemmas
 mod PartLemmas
 mod OccursLemmas

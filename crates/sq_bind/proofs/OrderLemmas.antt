@@ -1,78 +1,119 @@
--- The names of the output columns, one after another, and what they mean to ORDER BY.
-use Rattle.std.proofs.Common.{◌≡◌, ℕ, Bool, true, false, List, [], ◌∷◌, ◌++◌, Option, Some, None, Result, refl, ap, sym, ◌∙◌, cond, if◌then◌else◌}
-use Rattle.std.specs.Prelude.{filter, fold, ◌&&◌, String, string_bytes}
+-- The names of the cells, one after another, and what they mean to ORDER BY.
+use Rattle.std.proofs.Common.{◌≡◌, ℕ, suc, ◌+◌, length, arith, Bool, true, false, List, [], ◌∷◌, ◌++◌, Option, Some, None, Result, refl, ap, sym, ◌∙◌, cond, if◌then◌else◌}
+use Rattle.std.specs.Prelude.{filter, not, ◌&&◌, String, string_bytes}
 use Rattle.std.specs.List.{list_all}
 use Rattle.std.specs.Map.{lookup}
 use Rattle.std.specs.Str.{bytes_eq}
 use Rattle.std.proofs.lemmas.Bool.Decides.{same_from_decides}
-use Rattle.std.proofs.lemmas.List.Sums.{fold-append}
 use Rattle.std.proofs.lemmas.Slice.Eq.{bytes_eq-Decides}
 use Rattle.indexmap.specs.IndexMap.{insert_entry}
 use Rattle.sq_value.specs.Name.{lower, is_same_name}
 use Rattle.sq_parse.specs.Tree.{column_place}
 use Rattle.sq_parse.specs.declared.tree.ColRef.{ColRef}
-use Rattle.sq_expr.specs.declared.block.OutCol.{OutCol}
-use Rattle.sq_expr.specs.declared.cond.ColumnOf.{ColumnOf}
-use Rattle.sq_bind.specs.Visible.{Alias}
-use Rattle.sq_bind.specs.Statement.{candidates, sorted_column, output_column}
+use Rattle.sq_expr.specs.declared.shape.Cell.{Cell}
+use Rattle.sq_expr.specs.declared.shape.SortOn.{SortOn}
+use Rattle.sq_bind.specs.Visible.{Alias, meant}
+use Rattle.sq_bind.specs.Statement.{candidates, sorted_on, column_meant, first_named, has_name, is_same_cell}
 use Rattle.sq_bind.specs.declared.output.Meant.{Meant}
 use Rattle.sq_bind.specs.declared.fault.BindFault.{BindFault}
-use Rattle.sq_bind.specs.Ordered.{is_at, meant_with, meant_after, meant_among, told, HoldsOutput}
+use Rattle.sq_bind.specs.Ordered.{is_at, meant_with, meant_after, meant_from, meant_among, told, HoldsCells}
 
--- ---- what the columns of a name mean
-
-abbrev has_name : List ℕ → OutCol → Bool
-has_name name c = is_same_name c.name name
-
-abbrev one_more : Option Meant → OutCol → Option Meant
-one_more k c = Some (meant_with k c)
-
--- the columns of another name leave it
-named_only : (name : List ℕ) (known : Option Meant) (output : List OutCol)
-    → fold (meant_after name) known output ≡ fold one_more known (filter (has_name name) output)
-named_only name known [] = refl
-named_only name known (c ∷ output) = by (has_name name c) (λ k. named_only name k output)
-  where
-    by : (b : Bool)
-        → ((k : Option Meant) → fold (meant_after name) k output ≡ fold one_more k (filter (has_name name) output))
-        → fold (meant_after name) (if b then Some (meant_with known c) else known) output
-        ≡ fold one_more known (if b then c ∷ filter (has_name name) output else filter (has_name name) output)
-    by true rest = rest (Some (meant_with known c))
-    by false rest = rest known
+-- ---- what the cells of a name mean
 
 and_assoc : (x y z : Bool) → ((x && y) && z) ≡ (x && (y && z))
 and_assoc true y z = refl
 and_assoc false y z = refl
 
--- behind the first each is compared with it
-all_one : (first : ColumnOf) (one : Bool) (more : List OutCol)
-    → fold one_more (Some (record { first = first; is_one = one })) more
-    ≡ Some (record { first = first; is_one = one && list_all (is_at first) more })
-all_one first true [] = refl
-all_one first false [] = refl
-all_one first one (c ∷ more) =
-    all_one first (one && is_at first c) more
-    ∙ ap (λ (b : Bool). Some (record { first = first; is_one = b })) (and_assoc one (is_at first c) (list_all (is_at first) more))
+-- with a cell that is known to come after others
+abbrev marked : Meant → Bool → Meant
+marked m one = record { place = m.place; agg = m.agg; column = m.column; is_one = one }
 
--- what a name means, by what stands under it
-abbrev by_meaning : List Alias → ColRef → Option Meant → Result ColumnOf BindFault
-by_meaning aliases c None = sorted_column aliases c []
+-- the cells of another name leave it, and each other one is compared with the first
+known_before : (name : List ℕ) (first : ℕ) (m : Meant) (one : Bool) (cells : List Cell)
+    → meant_from name first (Some (marked m one)) cells
+    ≡ Some (marked m (one && list_all (is_at m.agg m.column) (filter (has_name name) cells)))
+unfolding meant_from
+known_before name first m true [] = refl
+known_before name first m false [] = refl
+known_before name first m one (c ∷ cells) = by (has_name name c) (λ k. known_before name (first + 1) m k cells)
+  where
+    by : (b : Bool)
+        → ((k : Bool) → meant_from name (first + 1) (Some (marked m k)) cells
+        ≡ Some (marked m (k && list_all (is_at m.agg m.column) (filter (has_name name) cells))))
+        → meant_from name (first + 1) (if b then Some (marked m (one && is_at m.agg m.column c)) else Some (marked m one)) cells
+        ≡ Some (marked m (one && list_all (is_at m.agg m.column)
+        (if b then c ∷ filter (has_name name) cells else filter (has_name name) cells)))
+    by true again =
+        again (one && is_at m.agg m.column c)
+        ∙ ap (λ (b : Bool). Some (marked m b)) (and_assoc one (is_at m.agg m.column c)
+        (list_all (is_at m.agg m.column) (filter (has_name name) cells)))
+    by false again = again one
+
+-- what the cells of a name mean, by these cells and the place of the first of them
+abbrev by_first : ℕ → List Cell → Option Meant
+by_first place [] = None
+by_first place (x ∷ more) =
+    Some (record { place = place; agg = x.agg; column = x.column; is_one = list_all (is_same_cell x) more })
+
+none_before : (name : List ℕ) (first : ℕ) (cells : List Cell)
+    → meant_from name first None cells ≡ by_first (first + first_named cells name) (filter (has_name name) cells)
+unfolding meant_from
+none_before name first [] = refl
+none_before name first (c ∷ cells) = by (has_name name c) (none_before name (first + 1) cells)
+  where
+    by : (b : Bool)
+        → meant_from name (first + 1) None cells
+        ≡ by_first ((first + 1) + first_named cells name) (filter (has_name name) cells)
+        → meant_from name (first + 1) (if b then Some (meant_with first None c) else None) cells
+        ≡ by_first (first + cond (not b) (1 + first_named cells name) 0)
+        (if b then c ∷ filter (has_name name) cells else filter (has_name name) cells)
+    by true again =
+        let here : first ≡ first + 0 = omega arith in
+        known_before name (first + 1) (meant_with first None c) true cells
+        ∙ ap (λ (p : ℕ). by_first p (c ∷ filter (has_name name) cells)) here
+    by false again =
+        let there : (first + 1) + first_named cells name ≡ first + (1 + first_named cells name) = omega arith in
+        again ∙ ap (λ (p : ℕ). by_first p (filter (has_name name) cells)) there
+
+-- what a name means, by what is kept under it
+abbrev by_meaning : List Alias → ColRef → Option Meant → Result SortOn BindFault
+by_meaning aliases c None = column_meant (meant aliases c)
 by_meaning aliases c (Some m) = told (column_place c) m
 
--- it is what ORDER BY takes of the columns of that name
-pub meant_sorted : (aliases : List Alias) (c : ColRef) (output : List OutCol) (known : Option Meant)
-    → known ≡ meant_among c.column.text output
-    → by_meaning aliases c known ≡ sorted_column aliases c (candidates output None c.column.text)
-unfolding meant_among told
-meant_sorted aliases c output known e =
-    ap (by_meaning aliases c) (e ∙ named_only c.column.text None output) ∙ by (filter (has_name c.column.text) output)
+-- it is what ORDER BY takes of the cells of that name
+pub meant_sorted : (aliases : List Alias) (c : ColRef) (cells : List Cell) (known : Option Meant)
+    → known ≡ meant_among c.column.text cells
+    → by_meaning aliases c known
+    ≡ sorted_on aliases c (first_named cells c.column.text) (candidates cells None c.column.text)
+unfolding told
+meant_sorted aliases c cells known e =
+    ap (by_meaning aliases c) (e ∙ none_before c.column.text 0 cells ∙ ap (λ (p : ℕ). by_first p named) zero_more)
+    ∙ by named
   where
-    by : (xs : List OutCol)
-        → by_meaning aliases c (fold (λ k d. Some (meant_with k d)) None xs) ≡ sorted_column aliases c xs
-    by [] = refl
-    by (x ∷ xs) = ap (by_meaning aliases c) (all_one (output_column x) true xs)
+    named : List Cell
+    named = filter (has_name c.column.text) cells
 
--- ---- the entries, with one more column
+    zero_more : 0 + first_named cells c.column.text ≡ first_named cells c.column.text
+    zero_more = omega arith
+
+    by : (xs : List Cell)
+        → by_meaning aliases c (by_first (first_named cells c.column.text) xs)
+        ≡ sorted_on aliases c (first_named cells c.column.text) xs
+    by [] = refl
+    by (x ∷ xs) = refl
+
+-- one more cell
+one_more : (name : List ℕ) (first : ℕ) (known : Option Meant) (cells : List Cell) (c : Cell)
+    → meant_from name first known (cells ++ (c ∷ []))
+    ≡ meant_after name (first + length cells) (meant_from name first known cells) c
+unfolding meant_from
+one_more name first known [] c = let here : first ≡ first + 0 = omega arith in ap (λ (p : ℕ). meant_after name p known c) here
+one_more name first known (x ∷ cells) c =
+    let there : (first + 1) + length cells ≡ first + suc (length cells) = omega arith in
+    one_more name (first + 1) (meant_after name first known x) cells c
+    ∙ ap (λ (p : ℕ). meant_after name p (meant_from name (first + 1) (meant_after name first known x) cells) c) there
+
+-- ---- the entries, with one more cell
 
 bytes_eq-sym : (x y : List ℕ) → bytes_eq x y ≡ bytes_eq y x
 bytes_eq-sym x y =
@@ -118,30 +159,33 @@ module _ {A X : Type 0} where
       by false is rest = ap (λ (found : Option X). cond (is_key low e.0) (Some e.1) found) rest
 
 module _ {A : Type 0} where
-  -- no entries, and no columns
-  pub no_output : (es : List (String A × Meant)) → es ≡ [] → HoldsOutput es []
-  unfolding HoldsOutput meant_among
-  no_output es e name = ap (λ (xs : List (String A × Meant)). lookup (λ key. bytes_eq (lower name) (string_bytes key)) xs) e
+  -- no entries, and no cells
+  pub no_cells : (es : List (String A × Meant)) → es ≡ [] → HoldsCells es []
+  unfolding HoldsCells meant_from
+  no_cells es e name = ap (λ (xs : List (String A × Meant)). lookup (λ key. bytes_eq (lower name) (string_bytes key)) xs) e
 
   -- what is kept under a name that is given in lower case
-  pub held_at : (es : List (String A × Meant)) (output : List OutCol) (name low : List ℕ) → HoldsOutput es output → low ≡ lower name
-      → lookup (λ key. bytes_eq low (string_bytes key)) es ≡ meant_among name output
-  unfolding HoldsOutput
-  held_at es output name low held is =
+  pub held_at : (es : List (String A × Meant)) (cells : List Cell) (name low : List ℕ) → HoldsCells es cells → low ≡ lower name
+      → lookup (λ key. bytes_eq low (string_bytes key)) es ≡ meant_among name cells
+  unfolding HoldsCells
+  held_at es cells name low held is =
       ap (λ (l : List ℕ). lookup (λ key. bytes_eq l (string_bytes key)) es) is ∙ held name
 
-  -- a column more, put under its name
-  pub more_output : (es : List (String A × Meant)) (key : String A) (front : List OutCol) (c : OutCol)
-      → string_bytes key ≡ lower c.name → HoldsOutput es front
-      → HoldsOutput (insert_entry string_eq es key (meant_with (meant_among c.name front) c)) (front ++ (c ∷ []))
-  unfolding HoldsOutput meant_among
-  more_output es key front c is held name = by (is_same_name c.name name) refl
+  -- a cell more, put under its name
+  pub more_cells : (es : List (String A × Meant)) (key : String A) (front : List Cell) (c : Cell) (place : ℕ)
+      → length front ≡ place → string_bytes key ≡ lower c.name → HoldsCells es front
+      → HoldsCells (insert_entry string_eq es key (meant_with place (meant_among c.name front) c)) (front ++ (c ∷ []))
+  unfolding HoldsCells
+  more_cells es key front c place long is held name = by (is_same_name c.name name) refl
     where
-      after : meant_among name (front ++ (c ∷ [])) ≡ meant_after name (meant_among name front) c
-      after = fold-append (meant_after name) None front (c ∷ [])
+      at : 0 + length front ≡ place
+      at = omega (arith, long)
+
+      after : meant_among name (front ++ (c ∷ [])) ≡ meant_after name place (meant_among name front) c
+      after = one_more name 0 None front c ∙ ap (λ (p : ℕ). meant_after name p (meant_among name front) c) at
 
       v : Meant
-      v = meant_with (meant_among c.name front) c
+      v = meant_with place (meant_among c.name front) c
 
       by : (b : Bool) → is_same_name c.name name ≡ b
           → lookup (is_key (lower name)) (insert_entry string_eq es key v) ≡ meant_among name (front ++ (c ∷ []))
@@ -151,12 +195,12 @@ module _ {A : Type 0} where
           sym (held c.name) ∙ ap (λ (l : List ℕ). lookup (is_key l) es) same ∙ held name in
           ap (λ (l : List ℕ). lookup (is_key l) (insert_entry string_eq es key v)) (sym same ∙ sym is)
           ∙ put_there es key v
-          ∙ ap (λ (k : Option Meant). Some (meant_with k c)) known
-          ∙ sym (ap (λ (b : Bool). if b then Some (meant_with (meant_among name front) c) else meant_among name front) e)
+          ∙ ap (λ (k : Option Meant). Some (meant_with place k c)) known
+          ∙ sym (ap (λ (b : Bool). if b then Some (meant_with place (meant_among name front) c) else meant_among name front) e)
           ∙ sym after
       by false e =
           let apart : is_key (lower name) key ≡ false =
           ap (bytes_eq (lower name)) is ∙ bytes_eq-sym (lower name) (lower c.name) ∙ e in
           put_apart (lower name) es key v apart ∙ held name
-          ∙ sym (ap (λ (b : Bool). if b then Some (meant_with (meant_among name front) c) else meant_among name front) e)
+          ∙ sym (ap (λ (b : Bool). if b then Some (meant_with place (meant_among name front) c) else meant_among name front) e)
           ∙ sym after

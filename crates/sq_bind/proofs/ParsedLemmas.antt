@@ -324,19 +324,20 @@ select_list = either _ _ IsSoundList
     (gives (λ _. items.Star) (rule.mark k.Star) Any IsSoundList (any (rule.mark k.Star)) (λ p h. tt))
     (gives items.List (rule.list_of k.Comma g.item) (Some' Any) IsSoundList (list_of k.Comma g.item Any (any g.item)) (λ p h. h.0))
 
-sound : (selected : Items) (froms : List Source) (where' : Option Tree) (keys : List OrderItem)
-    → IsSoundList selected → Some' IsSoundJoin froms → IfSome where' IsSoundTree → IsSound (made.statement_of selected froms where' keys)
-sound selected froms where' keys h hs hw = record { items = h; some_source = hs.0; joins = hs.1; condition = hw }
+sound : (distinct : Bool) (selected : Items) (froms : List Source) (where' : Option Tree) (groups : List ColRef) (keys : List OrderItem)
+    (limit : Option ℕ) → IsSoundList selected → Some' IsSoundJoin froms → IfSome where' IsSoundTree
+    → IsSound (made.statement_of distinct selected froms where' groups keys limit)
+sound distinct selected froms where' groups keys limit h hs hw = record { items = h; some_source = hs.0; joins = hs.1; condition = hw }
 
 statement : (d : ℕ) → Gives (g.statement shipped d) IsSound
-statement d = gives (λ p. made.statement_of p.1.0 p.1.1.0 p.1.1.1.0 p.1.1.1.1) _ (λ p. Any p.0 × (IsSoundList p.1.0 × (Some' IsSoundJoin p.1.1.0 × (IfSome p.1.1.1.0 IsSoundTree × Any p.1.1.1.1)))) IsSound
+statement d = gives (λ p. made.statement_of p.0 p.1.0 p.1.1.0 p.1.1.1.0 p.1.1.1.1.0 p.1.1.1.1.1.0 p.1.1.1.1.1.1) _ (λ p. Any p.0 × (IsSoundList p.1.0 × (Some' IsSoundJoin p.1.1.0 × (IfSome p.1.1.1.0 IsSoundTree × Any p.1.1.1.1)))) IsSound
     (after k.Select _ _
-    (then (rule.optional (rule.mark k.All)) _ Any (λ p. IsSoundList p.0 × (Some' IsSoundJoin p.1.0 × (IfSome p.1.1.0 IsSoundTree × Any p.1.1.1))) (any (rule.optional (rule.mark k.All)))
+    (then g.extent _ Any (λ p. IsSoundList p.0 × (Some' IsSoundJoin p.1.0 × (IfSome p.1.1.0 IsSoundTree × Any p.1.1.1))) (any g.extent)
     (then g.select_list _ IsSoundList (λ p. Some' IsSoundJoin p.0 × (IfSome p.1.0 IsSoundTree × Any p.1.1)) select_list
     (then _ _ (Some' IsSoundJoin) (λ p. IfSome p.0 IsSoundTree × Any p.1) (after k.From _ (Some' IsSoundJoin) (sources d))
     (then (rule.optional (rule.after k.Where (g.condition shipped d))) _ (λ o. IfSome o IsSoundTree) Any
     (maybe (rule.after k.Where (g.condition shipped d)) IsSoundTree (after k.Where (g.condition shipped d) IsSoundTree (condition d))) (any _))))))
-    (λ p h. sound p.1.0 p.1.1.0 p.1.1.1.0 p.1.1.1.1 h.1.0 h.1.1.0 h.1.1.1.0)
+    (λ p h. sound p.0 p.1.0 p.1.1.0 p.1.1.1.0 p.1.1.1.1.0 p.1.1.1.1.1.0 p.1.1.1.1.1.1 h.1.0 h.1.1.0 h.1.1.1.0)
 
 abbrev pub AllSound : Script → Type 0
 AllSound s = All IsSound s.statements

@@ -16,6 +16,8 @@ place_of (fault.WrongArguments at) = at
 place_of (fault.TooManyAliases at) = at
 place_of (fault.TooManyConjuncts at) = at
 place_of (fault.TooManyTerms at) = at
+place_of (fault.NotGrouped at) = at
+place_of (fault.NotSelected at) = at
 place_of (fault.Unreachable alias) = alias
 place_of fault.Memory = 0
 
@@ -32,6 +34,8 @@ fault_number (fault.WrongArguments at) = 8
 fault_number (fault.TooManyAliases at) = 9
 fault_number (fault.TooManyConjuncts at) = 10
 fault_number (fault.TooManyTerms at) = 11
+fault_number (fault.NotGrouped at) = 14
+fault_number (fault.NotSelected at) = 15
 fault_number (fault.Unreachable alias) = 12
 fault_number fault.Memory = 13
 

@@ -1,4 +1,4 @@
--- Serves proofs: aliases as definitions see them, the places of conjuncts, and whether a list has none, one or more.
+-- Serves proofs: aliases and what may be sorted by as definitions see them, the places of conjuncts, and whether a list has none, one or more.
 use Rattle.std.specs.Prelude.{ℕ, Bool, if◌then◌else◌, List, [], ◌∷◌, map, Result, Ok, Err}
 use Rattle.sq_bind.specs.Visible as spec
 use Rattle.sq_bind.specs.declared.visible.SeenAlias.{SeenAlias}
@@ -6,12 +6,18 @@ use Rattle.sq_bind.specs.declared.visible.Resolved.{Resolved}
 use Rattle.sq_bind.specs.declared.visible.Found.{Found}
 use Rattle.sq_bind.specs.declared.visible.Found.TheVariants.{None, One, More}
 use Rattle.sq_bind.specs.declared.conjunct.Placed.{Placed}
+use Rattle.sq_bind.specs.declared.order.Sortable.{Sortable}
+use Rattle.sq_bind.specs.Statement.{Sorting}
 use Rattle.sq_bind.specs.declared.fault.BindFault.{BindFault}
 use Rattle.sq_bind.specs.declared.fault.BindFault.TheVariants.{UnknownColumn, AmbiguousColumn}
 
 -- an alias: its number, its name and its table's columns
 abbrev pub seen : SeenAlias → spec.Alias
 seen a = record { number = a.number; name = a.name.now; columns = a.table.now.columns }
+
+-- what ORDER BY may sort by
+abbrev pub sorting : Sortable → Sorting
+sorting by = record { distinct = by.distinct; grouped = by.grouped; keys = by.keys.now; cells = by.cells.now }
 
 -- the places of conjuncts
 abbrev pub places_in : List Placed → List ℕ

@@ -1,6 +1,7 @@
--- What a statement binds to: the block, or the first fault of the first round that has one.
-use Rattle.std.specs.Prelude.{ℕ, ◌+◌, Bool, true, ◌&&◌, ◌==◌, ◌^◌, if◌then◌else◌, List, [], ◌∷◌, ◌++◌, map, filter, take, Option, Some, None, Result, Ok, Err, unwrap_or, slice_get, slice_index_or, sum}
-use Rattle.std.specs.List.{flat_map, list_any, list_all, range_with_len}
+-- What a statement binds to: the block with what is made of its matches, or the first fault of the first round that has
+-- one.
+use Rattle.std.specs.Prelude.{ℕ, ◌+◌, Bool, true, ◌&&◌, ◌||◌, not, ◌==◌, ◌^◌, if◌then◌else◌, List, [], ◌∷◌, ◌++◌, map, filter, take, Option, Some, None, is_some, Result, Ok, Err, unwrap_or, slice_get, slice_index_or, sum, codes}
+use Rattle.std.specs.List.{flat_map, list_any, list_all, position_or_len, range_with_len}
 use Rattle.std.specs.Option.{option_map_or}
 use Rattle.sq_value.specs.Name.{is_same_name}
 use Rattle.sq_value.specs.Relation.{Relation}
@@ -24,13 +25,23 @@ use Rattle.sq_expr.specs.declared.block.OutCol.{OutCol}
 use Rattle.sq_expr.specs.declared.block.OrderKey.{OrderKey}
 use Rattle.sq_expr.specs.declared.block.Conjunct.{Conjunct}
 use Rattle.sq_expr.specs.declared.block.Block.{Block}
+use Rattle.sq_value.specs.declared.value.SortWay.{SortWay}
+use Rattle.sq_parse.specs.Shaped.{is_grouped}
+use Rattle.sq_expr.specs.declared.shape.AggKind.{AggKind}
+use Rattle.sq_expr.specs.declared.shape.AggKind.TheVariants as agg
+use Rattle.sq_expr.specs.declared.shape.Cell.{Cell}
+use Rattle.sq_expr.specs.declared.shape.SortOn.{SortOn}
+use Rattle.sq_expr.specs.declared.shape.SortOn.TheVariants as sort
+use Rattle.sq_expr.specs.declared.shape.ShapeOrder.{ShapeOrder}
+use Rattle.sq_expr.specs.declared.shape.Shape.{Shape}
+use Rattle.sq_bind.specs.declared.shaped.Shaped.{Shaped}
 use Rattle.sq_bind.specs.Visible.{Alias, called, meant}
 use Rattle.sq_bind.specs.declared.visible.Resolved.{Resolved}
-use Rattle.sq_bind.specs.Operand.{column_faults}
+use Rattle.sq_bind.specs.Operand.{column_faults, number_faults}
 use Rattle.sq_bind.specs.declared.conjunct.Placed.{Placed}
 use Rattle.sq_bind.specs.Condition.{Calls, conjuncts_in, tree_faults, conjunct_faults}
 use Rattle.sq_bind.specs.declared.fault.BindFault.{BindFault}
-use Rattle.sq_bind.specs.declared.fault.BindFault.TheVariants.{UnknownTable, RepeatedAlias, UnknownAlias, AmbiguousColumn, TooManyAliases}
+use Rattle.sq_bind.specs.declared.fault.BindFault.TheVariants.{UnknownTable, RepeatedAlias, UnknownAlias, AmbiguousColumn, TooManyAliases, NotGrouped, NotSelected}
 
 -- what a statement is bound over: tables, the number of a table's name, how each is reached, and predicates
 pub record Scope : Type 0 where
@@ -87,15 +98,19 @@ aliases_in scope s = aliases_from scope 0 s.sources
 
 -- ---- the select list
 
+-- a cell that shows a column of the first member
+abbrev pub plain_cell : List ℕ → ColumnOf → Cell
+plain_cell name c = record { agg = None; column = c; name = name }
+
 -- some columns of an alias under their own names, where they count from a number on
-unfoldable pub outputs_from : ℕ → ℕ → List Column → List OutCol
-outputs_from alias first [] = []
-outputs_from alias first (c ∷ cs) =
-    record { alias = alias; column = first; name = c.name } ∷ outputs_from alias (first + 1) cs
+unfoldable pub cells_from : ℕ → ℕ → List Column → List Cell
+cells_from alias first [] = []
+cells_from alias first (c ∷ cs) =
+    plain_cell c.name record { alias = alias; column = first } ∷ cells_from alias (first + 1) cs
 
 -- all columns of an alias, in order
-abbrev pub columns_of : Alias → List OutCol
-columns_of a = outputs_from a.number 0 a.columns
+abbrev pub columns_of : Alias → List Cell
+columns_of a = cells_from a.number 0 a.columns
 
 -- the name of a column, as its table spells it
 abbrev pub name_in : List Column → ℕ → List ℕ
@@ -104,11 +119,8 @@ name_in columns column = option_map_or (λ (c : Column). c.name) (slice_get colu
 abbrev pub spelled : List Alias → ColumnOf → List ℕ
 spelled aliases c = option_map_or (λ (a : Alias). name_in a.columns c.column) (slice_get aliases c.alias) []
 
-abbrev pub out_column : List ℕ → ColumnOf → OutCol
-out_column name c = record { alias = c.alias; column = c.column; name = name }
-
 -- all columns of the alias that was called, where there is one
-abbrev pub called_columns : Option Alias → List OutCol
+abbrev pub called_columns : Option Alias → List Cell
 called_columns None = []
 called_columns (Some a) = columns_of a
 
@@ -118,64 +130,208 @@ called_faults at (Some a) = []
 
 -- a column has the name behind AS, or the one that its table gives it; a faulty one has none, and its fault stands
 -- before those of ORDER BY
-abbrev pub column_named : List Alias → Option Name → ColumnOf → OutCol
-column_named aliases None c = out_column (spelled aliases c) c
-column_named aliases (Some name) c = out_column name.text c
+abbrev pub column_named : List Alias → Option Name → ColumnOf → Cell
+column_named aliases None c = plain_cell (spelled aliases c) c
+column_named aliases (Some name) c = plain_cell name.text c
 
-abbrev pub named_column : List Alias → Option Name → Result Resolved BindFault → List OutCol
+abbrev pub named_column : List Alias → Option Name → Result Resolved BindFault → List Cell
 named_column aliases name (Err f) = []
 named_column aliases name (Ok m) = column_named aliases name m.column ∷ []
 
-unfoldable pub item_columns : List Alias → Item → List OutCol
-item_columns aliases (item.AllOf name) = called_columns (called name.text aliases)
-item_columns aliases (item.Col column name) = named_column aliases name (meant aliases column)
+-- the name of a set function without AS
+abbrev pub agg_name : AggKind → List ℕ
+agg_name agg.CountAll = codes "count"
+agg_name agg.Count = codes "count"
+agg_name agg.Sum = codes "sum"
+agg_name agg.Min = codes "min"
+agg_name agg.Max = codes "max"
+
+abbrev pub agg_named : AggKind → Option Name → List ℕ
+agg_named kind None = agg_name kind
+agg_named kind (Some name) = name.text
+
+abbrev pub agg_cell : AggKind → Option Name → ColumnOf → Cell
+agg_cell kind name c = record { agg = Some kind; column = c; name = agg_named kind name }
+
+-- the first column of the first alias
+abbrev pub first_column : ColumnOf
+first_column = record { alias = 0; column = 0 }
+
+abbrev pub agg_of : AggKind → Option Name → Result Resolved BindFault → List Cell
+agg_of kind name (Err f) = []
+agg_of kind name (Ok m) = agg_cell kind name m.column ∷ []
+
+-- a set function of a column; without one it counts all members
+abbrev pub agg_cells : List Alias → AggKind → Option Name → Option ColRef → List Cell
+agg_cells aliases kind name None = agg_cell agg.CountAll name first_column ∷ []
+agg_cells aliases kind name (Some c) = agg_of kind name (meant aliases c)
+
+-- what a set function is of: a sum is of numbers
+abbrev pub summed_faults : AggKind → ℕ → Result Resolved BindFault → List BindFault
+summed_faults agg.CountAll at r = column_faults r
+summed_faults agg.Count at r = column_faults r
+summed_faults agg.Sum at r = number_faults at r
+summed_faults agg.Min at r = column_faults r
+summed_faults agg.Max at r = column_faults r
+
+abbrev pub agg_faults : List Alias → AggKind → Option ColRef → List BindFault
+agg_faults aliases kind None = []
+agg_faults aliases kind (Some c) = summed_faults kind (column_place c) (meant aliases c)
+
+-- what an item of the select list shows
+unfoldable pub item_cells : List Alias → Item → List Cell
+item_cells aliases (item.AllOf name) = called_columns (called name.text aliases)
+item_cells aliases (item.Col column name) = named_column aliases name (meant aliases column)
+item_cells aliases (item.Agg at kind column name) = agg_cells aliases kind name column
 
 unfoldable pub item_faults : List Alias → Item → List BindFault
 item_faults aliases (item.AllOf name) = called_faults name.at (called name.text aliases)
 item_faults aliases (item.Col column name) = column_faults (meant aliases column)
+item_faults aliases (item.Agg at kind column name) = agg_faults aliases kind column
 
--- the output columns of a select list
-unfoldable pub output_of : List Alias → Items → List OutCol
-output_of aliases items.Star = flat_map columns_of aliases
-output_of aliases (items.List list) = flat_map (item_columns aliases) list
+-- the cells of a select list
+unfoldable pub cells_of : List Alias → Items → List Cell
+cells_of aliases items.Star = flat_map columns_of aliases
+cells_of aliases (items.List list) = flat_map (item_cells aliases) list
 
-unfoldable pub output_faults : List Alias → Items → List BindFault
-output_faults aliases items.Star = []
-output_faults aliases (items.List list) = flat_map (item_faults aliases) list
+unfoldable pub selected_faults : List Alias → Items → List BindFault
+selected_faults aliases items.Star = []
+selected_faults aliases (items.List list) = flat_map (item_faults aliases) list
+
+-- ---- GROUP BY
+
+abbrev pub is_one_column : ColumnOf → ColumnOf → Bool
+is_one_column x y = (x.alias == y.alias) && (x.column == y.column)
+
+-- a faulty column groups nothing
+abbrev pub grouping_column : Result Resolved BindFault → List ColumnOf
+grouping_column (Ok m) = m.column ∷ []
+grouping_column (Err f) = []
+
+abbrev pub grouping_by : List Alias → ColRef → List ColumnOf
+grouping_by aliases c = grouping_column (meant aliases c)
+
+-- the columns of GROUP BY
+unfoldable pub grouping_of : List Alias → List ColRef → List ColumnOf
+grouping_of aliases groups = flat_map (grouping_by aliases) groups
+
+abbrev pub group_faults : List Alias → ColRef → List BindFault
+group_faults aliases c = column_faults (meant aliases c)
+
+-- whether a column is one of GROUP BY
+abbrev pub is_grouping : List ColumnOf → ColumnOf → Bool
+is_grouping keys c = list_any (is_one_column c) keys
+
+-- whether a cell has one value in each group: it is a set function, or a column of GROUP BY
+abbrev pub is_settled : List ColumnOf → Cell → Bool
+is_settled keys cell = is_some cell.agg || is_grouping keys cell.column
+
+abbrev pub unsettled_faults : List ColumnOf → ℕ → List Cell → List BindFault
+unsettled_faults keys at cells = if list_all (is_settled keys) cells then [] else NotGrouped at ∷ []
+
+-- the place of an item: its name's or its column's
+abbrev pub item_place : Item → ℕ
+item_place (item.AllOf name) = name.at
+item_place (item.Col column name) = column_place column
+item_place (item.Agg at kind column name) = at
+
+-- the place of `*`: the first source's table name
+abbrev pub star_place : List Source → ℕ
+star_place [] = 0
+star_place (s ∷ more) = s.table.at
+
+-- the columns of a select list that have no one value in each group
+abbrev pub ungrouped_faults : List Alias → List ColumnOf → ℕ → Items → List BindFault
+ungrouped_faults aliases keys star items.Star = unsettled_faults keys star (cells_of aliases items.Star)
+ungrouped_faults aliases keys star (items.List list) =
+    flat_map (λ (i : Item). unsettled_faults keys (item_place i) (item_cells aliases i)) list
+
+-- those of a grouped statement
+unfoldable pub grouped_faults : List Alias → Statement → List BindFault
+grouped_faults aliases s =
+    if is_grouped s then ungrouped_faults aliases (grouping_of aliases s.groups) (star_place s.sources) s.items else []
 
 -- ---- ORDER BY
 
-abbrev pub is_same_column : OutCol → OutCol → Bool
-is_same_column x y = (x.alias == y.alias) && (x.column == y.column)
+-- the number of a set function, which tells it apart
+abbrev pub agg_number : Option AggKind → ℕ
+agg_number None = 0
+agg_number (Some agg.CountAll) = 1
+agg_number (Some agg.Count) = 2
+agg_number (Some agg.Sum) = 3
+agg_number (Some agg.Min) = 4
+agg_number (Some agg.Max) = 5
 
-abbrev pub output_column : OutCol → ColumnOf
-output_column c = record { alias = c.alias; column = c.column }
+-- whether two cells show one thing, by whatever names
+abbrev pub is_same_cell : Cell → Cell → Bool
+is_same_cell x y = (agg_number x.agg == agg_number y.agg) && is_one_column x.column y.column
 
-abbrev pub column_meant : Result Resolved BindFault → Result ColumnOf BindFault
-column_meant (Ok m) = Ok m.column
+abbrev pub column_meant : Result Resolved BindFault → Result SortOn BindFault
+column_meant (Ok m) = Ok (sort.Column m.column)
 column_meant (Err f) = Err f
 
--- output columns of a name are one column, or they differ; where there are none, FROM is asked
-abbrev pub sorted_column : List Alias → ColRef → List OutCol → Result ColumnOf BindFault
-sorted_column aliases c [] = column_meant (meant aliases c)
-sorted_column aliases c (x ∷ more) =
-    if list_all (is_same_column x) more then Ok (output_column x) else Err (AmbiguousColumn (column_place c))
+-- cells of a name show one thing, and the first of them is meant, or they differ; where there are none, FROM is asked
+abbrev pub sorted_on : List Alias → ColRef → ℕ → List Cell → Result SortOn BindFault
+sorted_on aliases c place [] = column_meant (meant aliases c)
+sorted_on aliases c place (x ∷ more) =
+    if list_all (is_same_cell x) more then Ok (sort.Cell place) else Err (AmbiguousColumn (column_place c))
 
--- the output columns that a column of ORDER BY may mean: those of its name, where no alias stands before it
-abbrev pub candidates : List OutCol → Option Name → List ℕ → List OutCol
-candidates output None name = filter (λ (c : OutCol). is_same_name c.name name) output
-candidates output (Some alias) name = []
+abbrev pub has_name : List ℕ → Cell → Bool
+has_name name c = is_same_name c.name name
 
-unfoldable pub order_column : List Alias → List OutCol → ColRef → Result ColumnOf BindFault
-order_column aliases output c = sorted_column aliases c (candidates output c.alias c.column.text)
+-- the cells that a column of ORDER BY may mean: those of its name, where no alias stands before it
+abbrev pub candidates : List Cell → Option Name → List ℕ → List Cell
+candidates cells None name = filter (has_name name) cells
+candidates cells (Some alias) name = []
 
-abbrev pub order_faults : Result ColumnOf BindFault → List BindFault
-order_faults (Ok c) = []
-order_faults (Err f) = f ∷ []
+-- the place of the first cell of a name
+abbrev pub first_named : List Cell → List ℕ → ℕ
+first_named cells name = position_or_len (has_name name) cells
 
-abbrev pub order_key : Result ColumnOf BindFault → OrderItem → OrderKey
-order_key (Ok c) item' = record { alias = c.alias; column = c.column; way = item'.way }
-order_key (Err f) item' = record { alias = 0; column = 0; way = item'.way }
+-- what a column of ORDER BY means: a cell of its name, or a column of FROM
+unfoldable pub order_on : List Alias → List Cell → ColRef → Result SortOn BindFault
+order_on aliases cells c =
+    sorted_on aliases c (first_named cells c.column.text) (candidates cells c.alias c.column.text)
+
+-- what ORDER BY may sort by beside the cells: of a DISTINCT statement the columns that cells show, and of a grouped one
+-- those of GROUP BY
+pub record Sorting : Type 0 where
+  pub distinct : Bool
+  pub grouped : Bool
+  pub keys : List ColumnOf
+  pub cells : List Cell
+
+abbrev pub sorting_of : List Alias → Statement → Sorting
+sorting_of aliases s = record {
+  distinct = s.distinct;
+  grouped = is_grouped s;
+  keys = grouping_of aliases s.groups;
+  cells = cells_of aliases s.items;
+}
+
+-- whether a cell shows a column as it is
+abbrev pub shows : ColumnOf → Cell → Bool
+shows c cell = not (is_some cell.agg) && is_one_column c cell.column
+
+abbrev pub is_unselected : Sorting → ColumnOf → Bool
+is_unselected by c = by.distinct && not (list_any (shows c) by.cells)
+
+abbrev pub is_ungrouped : Sorting → ColumnOf → Bool
+is_ungrouped by c = by.grouped && not (is_grouping by.keys c)
+
+-- a column that no cell names; where it isn't selected, no more is asked
+abbrev pub sorted_faults : Sorting → ℕ → ColumnOf → List BindFault
+sorted_faults by at c =
+    if is_unselected by c then NotSelected at ∷ [] else (if is_ungrouped by c then NotGrouped at ∷ [] else [])
+
+abbrev pub order_faults : Sorting → ℕ → Result SortOn BindFault → List BindFault
+order_faults by at (Ok (sort.Cell place)) = []
+order_faults by at (Ok (sort.Column c)) = sorted_faults by at c
+order_faults by at (Err f) = f ∷ []
+
+abbrev pub order_key : Result SortOn BindFault → OrderItem → ShapeOrder
+order_key (Ok on) item' = record { on = on; way = item'.way }
+order_key (Err f) item' = record { on = sort.Column first_column; way = item'.way }
 
 -- ---- conditions
 
@@ -209,16 +365,18 @@ part_faults calls p = tree_faults calls p.aliases p.tree
 
 -- ---- the second round
 
-unfoldable pub key_faults : List Alias → List OutCol → OrderItem → List BindFault
-key_faults aliases output key = order_faults (order_column aliases output key.column)
+unfoldable pub key_faults : List Alias → Sorting → OrderItem → List BindFault
+key_faults aliases by key = order_faults by (column_place key.column) (order_on aliases by.cells key.column)
 
--- the faults of the select list, the conditions, the number of conjuncts, and ORDER BY
+-- the faults of the select list, the conditions, the number of conjuncts, GROUP BY, what isn't grouped, and ORDER BY
 unfoldable pub faults_among : Calls → List Alias → Statement → List BindFault
 faults_among calls aliases s =
-    output_faults aliases s.items
+    selected_faults aliases s.items
     ++ (flat_map (part_faults calls) (parts_of aliases s)
     ++ (conjunct_faults (placed_in calls aliases s)
-    ++ flat_map (key_faults aliases (output_of aliases s.items)) s.order))
+    ++ (flat_map (group_faults aliases) s.groups
+    ++ (grouped_faults aliases s
+    ++ flat_map (key_faults aliases (sorting_of aliases s)) s.order))))
 
 abbrev pub rest_faults : Scope → Statement → List BindFault
 rest_faults scope s = faults_among scope.calls (aliases_in scope s) s
@@ -250,14 +408,67 @@ used accesses table = record { table = table; access = slice_index_or accesses t
 abbrev pub use_of : Scope → Source → AliasUse
 use_of scope s = used scope.accesses (table_number scope s)
 
-unfoldable pub key_of : List Alias → List OutCol → OrderItem → OrderKey
-key_of aliases output key = order_key (order_column aliases output key.column) key
+-- a key of ORDER BY
+unfoldable pub key_of : List Alias → List Cell → OrderItem → ShapeOrder
+key_of aliases cells key = order_key (order_on aliases cells key.column) key
 
--- the block of a statement that has no fault
-unfoldable pub block_of : Scope → Statement → Block
-block_of scope s = record {
+-- what a statement without a fault makes of its matches
+unfoldable pub shape_in : List Alias → Statement → Shape
+shape_in aliases s = record {
+  grouped = is_grouped s;
+  keys = grouping_of aliases s.groups;
+  cells = cells_of aliases s.items;
+  order = map (key_of aliases (cells_of aliases s.items)) s.order;
+  distinct = s.distinct;
+  limit = s.limit;
+}
+
+-- the first column of the first alias, as an output column
+abbrev pub first_output : List Alias → OutCol
+first_output aliases = record { alias = 0; column = 0; name = spelled aliases first_column }
+
+-- the matches of a statement: a block with one output column and no order
+unfoldable pub matches_of : Scope → Statement → Block
+matches_of scope s = record {
   aliases = map (use_of scope) s.sources;
   conjuncts = map placed_conjunct (placed_in scope.calls (aliases_in scope s) s);
-  output = output_of (aliases_in scope s) s.items;
-  order = map (key_of (aliases_in scope s) (output_of (aliases_in scope s) s.items)) s.order;
+  output = first_output (aliases_in scope s) ∷ [];
+  order = [];
 }
+
+-- a shaped statement: its matches, and what is made of them
+abbrev pub shaped_of : Scope → Statement → Shaped
+shaped_of scope s = record { block = matches_of scope s; shape = shape_in (aliases_in scope s) s }
+
+-- ---- the block of a statement that isn't shaped
+
+-- its output columns are its cells' columns
+abbrev pub output_column : Cell → OutCol
+output_column cell = record { alias = cell.column.alias; column = cell.column.column; name = cell.name }
+
+-- the column of a cell at a place, and of what is sorted by
+abbrev pub column_at : List Cell → ℕ → ColumnOf
+column_at cells place = option_map_or (λ (cell : Cell). cell.column) (slice_get cells place) first_column
+
+abbrev pub sort_column : List Cell → SortOn → ColumnOf
+sort_column cells (sort.Cell place) = column_at cells place
+sort_column cells (sort.Column c) = c
+
+abbrev pub key_by : SortWay → ColumnOf → OrderKey
+key_by way c = record { alias = c.alias; column = c.column; way = way }
+
+abbrev pub plain_key : List Cell → ShapeOrder → OrderKey
+plain_key cells key = key_by key.way (sort_column cells key.on)
+
+-- the block of a shape without groups, DISTINCT or LIMIT, over these matches
+unfoldable pub plain_block : Block → Shape → Block
+plain_block matches shape = record {
+  aliases = matches.aliases;
+  conjuncts = matches.conjuncts;
+  output = map output_column shape.cells;
+  order = map (plain_key shape.cells) shape.order;
+}
+
+-- the block of a statement that has no fault
+abbrev pub block_of : Scope → Statement → Block
+block_of scope s = plain_block (matches_of scope s) (shape_in (aliases_in scope s) s)

@@ -31,6 +31,10 @@ pub enum BindFault {
     TooManyConjuncts { at: u32 },
     /// The 9th term of a side.
     TooManyTerms { at: u32 },
+    /// A column of a grouped statement that is none of GROUP BY.
+    NotGrouped { at: u32 },
+    /// A column of ORDER BY that a DISTINCT statement doesn't select.
+    NotSelected { at: u32 },
     /// No scan and no look-up reaches this alias, which counts from 0.
     Unreachable { alias: u8 },
     /// There is no memory for the block.
@@ -59,7 +63,9 @@ fn place_of(fault: BindFault) -> u32
         | BindFault::WrongArguments { at }
         | BindFault::TooManyAliases { at }
         | BindFault::TooManyConjuncts { at }
-        | BindFault::TooManyTerms { at } => at,
+        | BindFault::TooManyTerms { at }
+        | BindFault::NotGrouped { at }
+        | BindFault::NotSelected { at } => at,
         BindFault::Unreachable { alias } => u32::from(alias),
         BindFault::Memory => 0,
     }
@@ -80,6 +86,8 @@ fn number_of(fault: BindFault) -> u8
         BindFault::TooManyAliases { at: _ } => 9,
         BindFault::TooManyConjuncts { at: _ } => 10,
         BindFault::TooManyTerms { at: _ } => 11,
+        BindFault::NotGrouped { at: _ } => 14,
+        BindFault::NotSelected { at: _ } => 15,
         BindFault::Unreachable { alias: _ } => 12,
         BindFault::Memory => 13,
     }

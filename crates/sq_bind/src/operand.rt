@@ -59,8 +59,8 @@ pub fn column_fault(aliases: &[SeenAlias<'_>], column: &ColRef) -> Option<BindFa
     }
 }
 
-// The fault of a column in a sum, which is no text.
-fn number_fault(at: u32, resolved: Result<Resolved, BindFault>) -> Option<BindFault>
+/// The fault of a column in a sum, which is no text.
+pub fn number_fault(at: u32, resolved: Result<Resolved, BindFault>) -> Option<BindFault>
     ensures { result ≡ first_of (spec.number_faults at resolved) }
 {
     match resolved {

@@ -1,42 +1,46 @@
-//! ORDER BY: the columns that it names, and their faults. An output column of a name goes before those of FROM.
+//! ORDER BY: what it sorts by, and its faults. A cell of a name goes before the columns of FROM.
 
-ghost use Rattle.std.specs.Prelude.{◌≡◌, [], List, map, None, IfOk};
-ghost use Rattle.std.specs.List.{flat_map};
+ghost use Rattle.std.specs.Prelude.{◌≡◌, ℕ, [], List, map, None, IfOk};
+ghost use Rattle.std.specs.List.{flat_map, list_any};
 ghost use Rattle.sq_value.specs.Name.{lower};
-ghost use Rattle.sq_expr.specs.declared.block.OutCol.{OutCol};
+ghost use Rattle.sq_parse.specs.Tree.{column_place};
+ghost use Rattle.sq_expr.specs.declared.shape.Cell.{Cell};
 ghost use Rattle.sq_bind.specs.Fault.{first_of};
 ghost use Rattle.sq_bind.specs.Statement as spec;
+ghost use Rattle.sq_bind.specs.Statement.{Sorting};
 ghost use Rattle.sq_bind.specs.Ordered as ordered;
-ghost use Rattle.sq_bind.specs.Ordered.{HoldsOutput};
+ghost use Rattle.sq_bind.specs.Ordered.{HoldsCells};
 ghost use Rattle.sq_bind.specs.Seen.{seen};
+ghost use Rattle.sq_bind.specs.Seen as found;
 
 use crate::fault::{BindFault, sooner};
-use crate::output::{Meant, meaning};
+use crate::group::is_grouping;
+use crate::output::{Meant, is_one_column, meaning};
 use crate::visible::{SeenAlias, place_of, resolve};
 use indexmap::IndexMap;
-use sq_expr::{ColumnOf, OrderKey};
+use sq_expr::{Cell, ColumnOf, ShapeOrder, SortOn};
 use sq_parse::{ColRef, OrderItem};
 use sq_value::Memory;
 use sqlite_items::Items;
 use std::alloc::Global;
 
-// The one column of a name, or a fault.
+// The cell of a name, or a fault.
 #[tactic(auto, unfolding(crate::specs::Ordered::told))]
-fn told(at: u32, meant: Meant) -> Result<ColumnOf, BindFault>
+fn told(at: u32, meant: Meant) -> Result<SortOn, BindFault>
     ensures { result ≡ ordered.told at meant }
 {
     if meant.is_one {
-        Ok(meant.first)
+        Ok(SortOn::Cell(meant.place))
     } else {
         Err(BindFault::AmbiguousColumn { at })
     }
 }
 
-fn resolved_column(aliases: &[SeenAlias<'_>], column: &ColRef) -> Result<ColumnOf, BindFault>
-    ensures { result ≡ spec.sorted_column (map seen aliases.now) column.now [] }
+fn resolved_column(aliases: &[SeenAlias<'_>], column: &ColRef) -> Result<SortOn, BindFault>
+    ensures { (place : ℕ) → result ≡ spec.sorted_on (map seen aliases.now) column.now place [] }
 {
     match resolve(aliases, column) {
-        Ok(found) => Ok(found.column),
+        Ok(found) => Ok(SortOn::Column(found.column)),
         Err(fault) => Err(fault),
     }
 }
@@ -47,11 +51,11 @@ fn named_column(
     names: &IndexMap<String, Meant>,
     column: &ColRef,
     name: &str,
-) -> Result<ColumnOf, BindFault>
+) -> Result<SortOn, BindFault>
     requires { name.now ≡ lower column.now.column.text }
-    ensures { (output : List OutCol) → HoldsOutput names.now.entries output
-        → result ≡ spec.sorted_column (map seen aliases.now) column.now
-        (spec.candidates output None column.now.column.text) }
+    ensures { (cells : List Cell) → HoldsCells names.now.entries cells
+        → result ≡ spec.sorted_on (map seen aliases.now) column.now (spec.first_named cells column.now.column.text)
+        (spec.candidates cells None column.now.column.text) }
 {
     match meaning(names, name) {
         Some(meant) => told(place_of(column), meant),
@@ -59,16 +63,16 @@ fn named_column(
     }
 }
 
-// What a column of ORDER BY means: an output column of its name, or a column of FROM.
-fn order_column(
+// What a column of ORDER BY means: a cell of its name, or a column of FROM.
+fn order_on(
     aliases: &[SeenAlias<'_>],
     names: &IndexMap<String, Meant>,
     column: &ColRef,
     name: &str,
-) -> Result<ColumnOf, BindFault>
+) -> Result<SortOn, BindFault>
     requires { name.now ≡ lower column.now.column.text }
-    ensures { (output : List OutCol) → HoldsOutput names.now.entries output
-        → result ≡ spec.order_column (map seen aliases.now) output column.now }
+    ensures { (cells : List Cell) → HoldsCells names.now.entries cells
+        → result ≡ spec.order_on (map seen aliases.now) cells column.now }
 {
     match &column.alias {
         Some(_) => resolved_column(aliases, column),
@@ -76,38 +80,91 @@ fn order_column(
     }
 }
 
+/// What ORDER BY may sort by beside the cells: of a DISTINCT statement the columns that cells show, and of
+/// a grouped one those of GROUP BY.
+#[derive(Clone, Copy)]
+pub struct Sortable<'a> {
+    pub distinct: bool,
+    pub grouped: bool,
+    pub keys: &'a [ColumnOf],
+    pub cells: &'a [Cell],
+}
+
+// Whether a cell shows a column as it is.
+fn shows(column: ColumnOf, cell: &Cell) -> bool
+    ensures { result ≡ spec.shows column cell.now }
+{
+    cell.agg.is_none() && is_one_column(column, cell.column)
+}
+
+fn is_shown(column: ColumnOf, cells: &[Cell]) -> bool
+    ensures { result ≡ list_any (spec.shows column) cells.now }
+{
+    for cell in cells {
+        if shows(column, cell) {
+            return true;
+        }
+    }
+    false
+}
+
+// A column that no cell names.
+fn sorted_fault(by: Sortable<'_>, at: u32, column: ColumnOf) -> Option<BindFault>
+    ensures { result ≡ first_of (spec.sorted_faults (found.sorting by.entry) at column) }
+{
+    if by.distinct && !is_shown(column, by.cells) {
+        Some(BindFault::NotSelected { at })
+    } else if by.grouped && !is_grouping(by.keys, column) {
+        Some(BindFault::NotGrouped { at })
+    } else {
+        None
+    }
+}
+
+fn order_fault(by: Sortable<'_>, at: u32, on: Result<SortOn, BindFault>) -> Option<BindFault>
+    ensures { result ≡ first_of (spec.order_faults (found.sorting by.entry) at on) }
+{
+    match on {
+        Ok(SortOn::Cell(_)) => None,
+        Ok(SortOn::Column(column)) => sorted_fault(by, at, column),
+        Err(fault) => Some(fault),
+    }
+}
+
 fn key_fault(
     alloc: Global,
     aliases: &[SeenAlias<'_>],
     names: &IndexMap<String, Meant>,
+    by: Sortable<'_>,
     key: &OrderItem,
 ) -> Result<Option<BindFault>, Memory>
-    ensures { (output : List OutCol) → HoldsOutput names.now.entries output
-        → IfOk result (λ fault. fault ≡ first_of (spec.key_faults (map seen aliases.now) output key.now)) }
+    requires { HoldsCells names.now.entries by.cells.now }
+    ensures { IfOk result (λ fault.
+        fault ≡ first_of (spec.key_faults (map seen aliases.now) (found.sorting by.entry) key.now)) }
 {
     let name = key.column.column.text.as_str().to_ascii_lowercase(alloc)?;
-    match order_column(aliases, names, &key.column, name.as_str()) {
-        Ok(_) => Ok(None),
-        Err(fault) => Ok(Some(fault)),
-    }
+    let on = order_on(aliases, names, &key.column, name.as_str());
+    Ok(order_fault(by, place_of(&key.column), on))
 }
 
-/// The first fault of ORDER BY, where the output's names are known.
+/// The first fault of ORDER BY, where the names of the cells are known.
 ///
 /// # Errors
 /// `Memory`: there is no memory for a name.
-pub fn order_fault(
+pub fn keys_fault(
     alloc: Global,
     aliases: &[SeenAlias<'_>],
     names: &IndexMap<String, Meant>,
+    by: Sortable<'_>,
     order: &[OrderItem],
 ) -> Result<Option<BindFault>, Memory>
-    ensures { (output : List OutCol) → HoldsOutput names.now.entries output
-        → IfOk result (λ fault. fault ≡ first_of (flat_map (spec.key_faults (map seen aliases.now) output) order.now)) }
+    requires { HoldsCells names.now.entries by.cells.now }
+    ensures { IfOk result (λ fault.
+        fault ≡ first_of (flat_map (spec.key_faults (map seen aliases.now) (found.sorting by.entry)) order.now)) }
 {
     let mut fault = None;
     for key in order {
-        fault = sooner(fault, key_fault(alloc, aliases, names, key)?);
+        fault = sooner(fault, key_fault(alloc, aliases, names, by, key)?);
     }
     Ok(fault)
 }
@@ -117,26 +174,27 @@ fn key_of(
     aliases: &[SeenAlias<'_>],
     names: &IndexMap<String, Meant>,
     key: &OrderItem,
-) -> Result<OrderKey, Memory>
-    ensures { (output : List OutCol) → HoldsOutput names.now.entries output
-        → IfOk result (λ made. made ≡ spec.key_of (map seen aliases.now) output key.now) }
+) -> Result<ShapeOrder, Memory>
+    ensures { (cells : List Cell) → HoldsCells names.now.entries cells
+        → IfOk result (λ made. made ≡ spec.key_of (map seen aliases.now) cells key.now) }
 {
     let name = key.column.column.text.as_str().to_ascii_lowercase(alloc)?;
-    match order_column(aliases, names, &key.column, name.as_str()) {
-        Ok(column) => Ok(OrderKey {
-            alias: column.alias,
-            column: column.column,
-            way: key.way,
-        }),
-        Err(_) => Ok(OrderKey {
-            alias: 0,
-            column: 0,
-            way: key.way,
-        }),
+    match order_on(aliases, names, &key.column, name.as_str()) {
+        Ok(on) => Ok(ShapeOrder { on, way: key.way }),
+        Err(_) => {
+            let first = ColumnOf {
+                alias: 0,
+                column: 0,
+            };
+            Ok(ShapeOrder {
+                on: SortOn::Column(first),
+                way: key.way,
+            })
+        }
     }
 }
 
-/// The sort keys of ORDER BY, where it has no fault and the output's names are known.
+/// The sort keys of ORDER BY, where it has no fault and the names of the cells are known.
 ///
 /// # Errors
 /// `Memory`: there is no memory for them.
@@ -145,9 +203,9 @@ pub fn order_of(
     aliases: &[SeenAlias<'_>],
     names: &IndexMap<String, Meant>,
     order: &[OrderItem],
-) -> Result<Items<OrderKey>, Memory>
-    ensures { (output : List OutCol) → HoldsOutput names.now.entries output
-        → IfOk result (λ keys. keys ≡ map (spec.key_of (map seen aliases.now) output) order.now) }
+) -> Result<Items<ShapeOrder>, Memory>
+    ensures { (cells : List Cell) → HoldsCells names.now.entries cells
+        → IfOk result (λ keys. keys ≡ map (spec.key_of (map seen aliases.now) cells) order.now) }
 {
     let mut keys = Items::new(alloc);
     for key in order {

@@ -1,87 +1,117 @@
-//! The names of the output columns, in lower case, with what each means to ORDER BY.
+//! The names of the cells, in lower case, with what each means to ORDER BY.
 
-ghost use Rattle.std.specs.Prelude.{◌≡◌, [], ◌∷◌, ◌++◌, List, IfOk, OnOk};
+ghost use Rattle.std.specs.Prelude.{◌≡◌, ◌<◌, [], ◌∷◌, ◌++◌, List, length, IfOk, OnOk};
 ghost use Rattle.std.specs.HashMap.{get_by_text};
-ghost use Rattle.sq_expr.specs.declared.block.OutCol.{OutCol};
+ghost use Rattle.sq_expr.specs.declared.shape.Cell.{Cell};
 ghost use Rattle.sq_bind.specs.Ordered as spec;
-ghost use Rattle.sq_bind.specs.Ordered.{HoldsOutput};
-ghost use Rattle.sq_bind.specs.Statement.{output_column};
+ghost use Rattle.sq_bind.specs.Ordered.{HoldsCells};
+ghost use Rattle.sq_bind.specs.Statement as statement;
 
 use indexmap::IndexMap;
-use sq_expr::{ColumnOf, OutCol};
+use sq_expr::{AggKind, Cell, ColumnOf};
 use sq_value::Memory;
 use std::alloc::Global;
 
-/// What the output columns of one name mean: the first of them, and whether all are that column.
+/// What the cells of one name mean: the first of them by its place, and whether all show what it shows.
 #[derive(Clone, Copy, Debug)]
 pub struct Meant {
-    pub first: ColumnOf,
+    pub place: u32,
+    pub agg: Option<AggKind>,
+    pub column: ColumnOf,
     pub is_one: bool,
 }
 
-fn output_column(column: &OutCol) -> ColumnOf
-    ensures { result ≡ output_column column.now }
+// The number of a set function, which tells it apart.
+fn agg_number(agg: Option<AggKind>) -> u8
+    ensures { result ≡ statement.agg_number agg }
 {
-    ColumnOf {
-        alias: column.alias,
-        column: column.column,
+    match agg {
+        None => 0,
+        Some(AggKind::CountAll) => 1,
+        Some(AggKind::Count) => 2,
+        Some(AggKind::Sum) => 3,
+        Some(AggKind::Min) => 4,
+        Some(AggKind::Max) => 5,
     }
 }
 
-fn is_at(first: ColumnOf, column: &OutCol) -> bool
-    ensures { result ≡ spec.is_at first column.now }
+/// Whether two columns are one.
+pub fn is_one_column(column: ColumnOf, other: ColumnOf) -> bool
+    ensures { result ≡ statement.is_one_column column other }
 {
-    first.alias == column.alias && first.column == column.column
+    column.alias == other.alias && column.column == other.column
 }
 
-// What a name means with one more output column of it.
-fn meant_with(known: Option<Meant>, column: &OutCol) -> Meant
-    ensures { result ≡ spec.meant_with known column.now }
+fn is_at(agg: Option<AggKind>, column: ColumnOf, cell: &Cell) -> bool
+    ensures { result ≡ spec.is_at agg column cell.now }
+{
+    agg_number(agg) == agg_number(cell.agg) && is_one_column(column, cell.column)
+}
+
+// What a name means with one more cell of it.
+fn meant_with(place: u32, known: Option<Meant>, cell: &Cell) -> Meant
+    ensures { result ≡ spec.meant_with place known cell.now }
 {
     match known {
         Some(known) => Meant {
-            first: known.first,
-            is_one: known.is_one && is_at(known.first, column),
+            place: known.place,
+            agg: known.agg,
+            column: known.column,
+            is_one: known.is_one && is_at(known.agg, known.column, cell),
         },
         None => Meant {
-            first: output_column(column),
+            place,
+            agg: cell.agg,
+            column: cell.column,
             is_one: true,
         },
     }
 }
 
-/// What the output columns of a name mean, which is given in lower case.
+/// What the cells of a name mean, which is given in lower case.
 pub fn meaning(names: &IndexMap<String, Meant>, lower: &str) -> Option<Meant>
     ensures { result ≡ get_by_text names.now lower.now }
 {
     names.get(lower).copied()
 }
 
-// Puts one more output column behind the others.
-fn put_column(
+// Puts one more cell behind the others.
+fn put_cell(
     alloc: Global,
     names: &mut IndexMap<String, Meant>,
-    column: &OutCol,
+    place: u32,
+    cell: &Cell,
 ) -> Result<(), Memory>
-    ensures { (front : List OutCol) → HoldsOutput names.old.entries front
-        → OnOk result (HoldsOutput names.new.entries (front ++ column.now ∷ [])) }
+    ensures { (front : List Cell) → length front ≡ place → HoldsCells names.old.entries front
+        → OnOk result (HoldsCells names.new.entries (front ++ cell.now ∷ [])) }
 {
-    let lower = column.name.as_str().to_ascii_lowercase(alloc)?;
-    let with = meant_with(meaning(names, lower.as_str()), column);
+    let lower = cell.name.as_str().to_ascii_lowercase(alloc)?;
+    let with = meant_with(place, meaning(names, lower.as_str()), cell);
     names.insert(lower, with)?;
     Ok(())
 }
 
-/// What each name of the output columns means.
-///
-/// # Errors
-/// `Memory`: there is no memory for the names.
-pub fn meanings_of(alloc: Global, output: &[OutCol]) -> Result<IndexMap<String, Meant>, Memory>
-    ensures { IfOk result (λ names. HoldsOutput names.entries output.now) }
+// The names of cells whose places are known to be numbers of 32 bits.
+fn names_of(alloc: Global, cells: &[Cell]) -> Result<IndexMap<String, Meant>, Memory>
+    requires { length cells.now < 4294967296 }
+    ensures { IfOk result (λ names. HoldsCells names.entries cells.now) }
 {
     let mut names = IndexMap::new(alloc);
-    for column in output {
-        put_column(alloc, &mut names, column)?;
+    for (index, cell) in cells.iter().enumerate() {
+        put_cell(alloc, &mut names, index as u32, cell)?;
     }
     Ok(names)
+}
+
+/// What each name of the cells means.
+///
+/// # Errors
+/// `Memory`: there is no memory for the names, or there are more than 4,294,967,295 cells.
+pub fn meanings_of(alloc: Global, cells: &[Cell]) -> Result<IndexMap<String, Meant>, Memory>
+    ensures { IfOk result (λ names. HoldsCells names.entries cells.now) }
+{
+    if cells.len() > 4_294_967_295 {
+        return Err(Memory);
+    }
+    names_of(alloc, cells)
 }

@@ -1,57 +1,61 @@
-//! The select list and ORDER BY: the output columns and the sort keys, and their faults.
+//! The select list: the cells that it shows, and its faults.
 
 ghost use Rattle.std.specs.Prelude.{◌≡◌, ◌≤◌, [], ◌∷◌, ◌++◌, length, map, OnOk, IfOk};
 ghost use Rattle.std.specs.List.{flat_map};
+ghost use Rattle.sq_parse.specs.Tree.{column_place};
 ghost use Rattle.sq_bind.specs.Fault.{first_of};
 ghost use Rattle.sq_bind.specs.Visible.{called, meant};
 ghost use Rattle.sq_bind.specs.Statement as spec;
 ghost use Rattle.sq_bind.specs.Seen.{seen};
 
 use crate::fault::{BindFault, sooner};
-use crate::operand::column_fault;
-use crate::visible::{SeenAlias, called, resolve};
-use sq_expr::{ColumnOf, OutCol};
+use crate::operand::{column_fault, number_fault};
+use crate::visible::{SeenAlias, called, place_of, resolve};
+use sq_expr::{AggKind, Cell, ColumnOf};
 use sq_parse::{ColRef, Item, Items as Selected, Name};
-use sq_value::{Column, Memory, SqText, same_name};
+use sq_value::{Column, Memory, SqText};
 use std::alloc::Global;
 
 // Puts columns of an alias behind the others, under their own names.
-#[tactic(auto, using(crate::proofs::SelectLemmas::next_out, crate::proofs::SelectLemmas::all_out))]
+#[tactic(auto, using(crate::proofs::SelectLemmas::next_cell, crate::proofs::SelectLemmas::all_cells))]
 fn push_columns(
     alloc: Global,
     alias: u8,
     columns: &[Column],
-    output: &mut Vec<OutCol>,
+    cells: &mut Vec<Cell>,
 ) -> Result<(), Memory>
     requires { length columns.now ≤ 64 }
-    ensures { OnOk result (output.new.items ≡ output.old.items ++ spec.outputs_from alias 0 columns.now) }
+    ensures { OnOk result (cells.new.items ≡ cells.old.items ++ spec.cells_from alias 0 columns.now) }
 {
     for (index, column) in columns.iter().enumerate() {
         let name = SqText::of(alloc, column.name.as_str())?;
-        output.push(OutCol {
-            alias,
-            column: index as u32,
+        cells.push(Cell {
+            agg: None,
+            column: ColumnOf {
+                alias,
+                column: index as u32,
+            },
             name,
         })?;
     }
     Ok(())
 }
 
-fn push_alias(alloc: Global, alias: &SeenAlias<'_>, output: &mut Vec<OutCol>) -> Result<(), Memory>
-    ensures { OnOk result (output.new.items ≡ output.old.items ++ spec.columns_of (seen alias.now)) }
+fn push_alias(alloc: Global, alias: &SeenAlias<'_>, cells: &mut Vec<Cell>) -> Result<(), Memory>
+    ensures { OnOk result (cells.new.items ≡ cells.old.items ++ spec.columns_of (seen alias.now)) }
 {
-    push_columns(alloc, alias.number, alias.table.columns(), output)
+    push_columns(alloc, alias.number, alias.table.columns(), cells)
 }
 
 fn push_all(
     alloc: Global,
     aliases: &[SeenAlias<'_>],
-    output: &mut Vec<OutCol>,
+    cells: &mut Vec<Cell>,
 ) -> Result<(), Memory>
-    ensures { OnOk result (output.new.items ≡ output.old.items ++ flat_map spec.columns_of (map seen aliases.now)) }
+    ensures { OnOk result (cells.new.items ≡ cells.old.items ++ flat_map spec.columns_of (map seen aliases.now)) }
 {
     for alias in aliases {
-        push_alias(alloc, alias, output)?;
+        push_alias(alloc, alias, cells)?;
     }
     Ok(())
 }
@@ -60,13 +64,13 @@ fn push_called(
     alloc: Global,
     aliases: &[SeenAlias<'_>],
     name: &Name,
-    output: &mut Vec<OutCol>,
+    cells: &mut Vec<Cell>,
 ) -> Result<(), Memory>
-    ensures { OnOk result (output.new.items
-        ≡ output.old.items ++ spec.called_columns (called name.now.text (map seen aliases.now))) }
+    ensures { OnOk result (cells.new.items
+        ≡ cells.old.items ++ spec.called_columns (called name.now.text (map seen aliases.now))) }
 {
     match called(aliases, name.text.as_str()) {
-        Some(alias) => push_alias(alloc, alias, output),
+        Some(alias) => push_alias(alloc, alias, cells),
         None => Ok(()),
     }
 }
@@ -80,8 +84,8 @@ fn name_in(columns: &[Column], column: u32) -> &str
     }
 }
 
-// The name of a column, as its table spells it.
-fn spelled<'t>(aliases: &[SeenAlias<'t>], column: ColumnOf) -> &'t str
+/// The name of a column, as its table spells it.
+pub fn spelled<'t>(aliases: &[SeenAlias<'t>], column: ColumnOf) -> &'t str
     ensures { result.now ≡ spec.spelled (map seen aliases.now) column }
 {
     match aliases.get(usize::from(column.alias)) {
@@ -90,18 +94,18 @@ fn spelled<'t>(aliases: &[SeenAlias<'t>], column: ColumnOf) -> &'t str
     }
 }
 
-fn push_out(
+fn push_plain(
     alloc: Global,
     name: &str,
     column: ColumnOf,
-    output: &mut Vec<OutCol>,
+    cells: &mut Vec<Cell>,
 ) -> Result<(), Memory>
-    ensures { OnOk result (output.new.items ≡ output.old.items ++ spec.out_column name.now column ∷ []) }
+    ensures { OnOk result (cells.new.items ≡ cells.old.items ++ spec.plain_cell name.now column ∷ []) }
 {
     let name = SqText::of(alloc, name)?;
-    output.push(OutCol {
-        alias: column.alias,
-        column: column.column,
+    cells.push(Cell {
+        agg: None,
+        column,
         name,
     })?;
     Ok(())
@@ -112,14 +116,14 @@ fn push_named(
     aliases: &[SeenAlias<'_>],
     name: &Option<Name>,
     column: ColumnOf,
-    output: &mut Vec<OutCol>,
+    cells: &mut Vec<Cell>,
 ) -> Result<(), Memory>
-    ensures { OnOk result (output.new.items
-        ≡ output.old.items ++ spec.column_named (map seen aliases.now) name.now column ∷ []) }
+    ensures { OnOk result (cells.new.items
+        ≡ cells.old.items ++ spec.column_named (map seen aliases.now) name.now column ∷ []) }
 {
     match name {
-        Some(name) => push_out(alloc, name.text.as_str(), column, output),
-        None => push_out(alloc, spelled(aliases, column), column, output),
+        Some(name) => push_plain(alloc, name.text.as_str(), column, cells),
+        None => push_plain(alloc, spelled(aliases, column), column, cells),
     }
 }
 
@@ -128,29 +132,115 @@ fn push_column(
     aliases: &[SeenAlias<'_>],
     column: &ColRef,
     name: &Option<Name>,
-    output: &mut Vec<OutCol>,
+    cells: &mut Vec<Cell>,
 ) -> Result<(), Memory>
-    ensures { OnOk result (output.new.items ≡ output.old.items
+    ensures { OnOk result (cells.new.items ≡ cells.old.items
         ++ spec.named_column (map seen aliases.now) name.now (meant (map seen aliases.now) column.now)) }
 {
     match resolve(aliases, column) {
-        Ok(found) => push_named(alloc, aliases, name, found.column, output),
+        Ok(found) => push_named(alloc, aliases, name, found.column, cells),
         Err(_) => Ok(()),
     }
 }
 
-#[tactic(auto, unfolding(crate::specs::Statement::item_columns))]
+// The name of a set function without AS.
+fn agg_name(kind: AggKind) -> &'static str
+    ensures { result.now ≡ spec.agg_name kind }
+{
+    match kind {
+        AggKind::CountAll | AggKind::Count => "count",
+        AggKind::Sum => "sum",
+        AggKind::Min => "min",
+        AggKind::Max => "max",
+    }
+}
+
+fn agg_named<'n>(kind: AggKind, name: &'n Option<Name>) -> &'n str
+    ensures { result.now ≡ spec.agg_named kind name.now }
+{
+    match name {
+        Some(name) => name.text.as_str(),
+        None => agg_name(kind),
+    }
+}
+
+// Puts a set function of a column behind the others.
+fn push_agg(
+    alloc: Global,
+    kind: AggKind,
+    name: &Option<Name>,
+    column: ColumnOf,
+    cells: &mut Vec<Cell>,
+) -> Result<(), Memory>
+    ensures { OnOk result (cells.new.items ≡ cells.old.items ++ spec.agg_cell kind name.now column ∷ []) }
+{
+    let name = SqText::of(alloc, agg_named(kind, name))?;
+    cells.push(Cell {
+        agg: Some(kind),
+        column,
+        name,
+    })?;
+    Ok(())
+}
+
+fn push_agg_of(
+    alloc: Global,
+    aliases: &[SeenAlias<'_>],
+    kind: AggKind,
+    column: &ColRef,
+    name: &Option<Name>,
+    cells: &mut Vec<Cell>,
+) -> Result<(), Memory>
+    ensures { OnOk result (cells.new.items ≡ cells.old.items
+        ++ spec.agg_of kind name.now (meant (map seen aliases.now) column.now)) }
+{
+    match resolve(aliases, column) {
+        Ok(found) => push_agg(alloc, kind, name, found.column, cells),
+        Err(_) => Ok(()),
+    }
+}
+
+fn push_aggregate(
+    alloc: Global,
+    aliases: &[SeenAlias<'_>],
+    kind: AggKind,
+    column: &Option<ColRef>,
+    name: &Option<Name>,
+    cells: &mut Vec<Cell>,
+) -> Result<(), Memory>
+    ensures { OnOk result (cells.new.items ≡ cells.old.items
+        ++ spec.agg_cells (map seen aliases.now) kind name.now column.now) }
+{
+    match column {
+        Some(column) => push_agg_of(alloc, aliases, kind, column, name, cells),
+        None => {
+            let first = ColumnOf {
+                alias: 0,
+                column: 0,
+            };
+            push_agg(alloc, AggKind::CountAll, name, first, cells)
+        }
+    }
+}
+
+#[tactic(auto, unfolding(crate::specs::Statement::item_cells))]
 fn push_item(
     alloc: Global,
     aliases: &[SeenAlias<'_>],
     item: &Item,
-    output: &mut Vec<OutCol>,
+    cells: &mut Vec<Cell>,
 ) -> Result<(), Memory>
-    ensures { OnOk result (output.new.items ≡ output.old.items ++ spec.item_columns (map seen aliases.now) item.now) }
+    ensures { OnOk result (cells.new.items ≡ cells.old.items ++ spec.item_cells (map seen aliases.now) item.now) }
 {
     match item {
-        Item::AllOf(name) => push_called(alloc, aliases, name, output),
-        Item::Col(column, name) => push_column(alloc, aliases, column, name, output),
+        Item::AllOf(name) => push_called(alloc, aliases, name, cells),
+        Item::Col(column, name) => push_column(alloc, aliases, column, name, cells),
+        Item::Agg {
+            at: _,
+            kind,
+            column,
+            name,
+        } => push_aggregate(alloc, aliases, *kind, column, name, cells),
     }
 }
 
@@ -158,46 +248,62 @@ fn push_items(
     alloc: Global,
     aliases: &[SeenAlias<'_>],
     items: &[Item],
-    output: &mut Vec<OutCol>,
+    cells: &mut Vec<Cell>,
 ) -> Result<(), Memory>
-    ensures { OnOk result (output.new.items
-        ≡ output.old.items ++ flat_map (spec.item_columns (map seen aliases.now)) items.now) }
+    ensures { OnOk result (cells.new.items
+        ≡ cells.old.items ++ flat_map (spec.item_cells (map seen aliases.now)) items.now) }
 {
     for item in items {
-        push_item(alloc, aliases, item, output)?;
+        push_item(alloc, aliases, item, cells)?;
     }
     Ok(())
 }
 
-#[tactic(auto, unfolding(crate::specs::Statement::output_of))]
+#[tactic(auto, unfolding(crate::specs::Statement::cells_of))]
 fn push_selected(
     alloc: Global,
     aliases: &[SeenAlias<'_>],
     items: &Selected,
-    output: &mut Vec<OutCol>,
+    cells: &mut Vec<Cell>,
 ) -> Result<(), Memory>
-    ensures { OnOk result (output.new.items ≡ output.old.items ++ spec.output_of (map seen aliases.now) items.now) }
+    ensures { OnOk result (cells.new.items ≡ cells.old.items ++ spec.cells_of (map seen aliases.now) items.now) }
 {
     match items {
-        Selected::Star => push_all(alloc, aliases, output),
-        Selected::List(items) => push_items(alloc, aliases, items.as_slice(), output),
+        Selected::Star => push_all(alloc, aliases, cells),
+        Selected::List(items) => push_items(alloc, aliases, items.as_slice(), cells),
     }
 }
 
-/// The output columns of a select list. An item with a fault gives none.
+/// The cells of a select list. An item with a fault gives none.
 ///
 /// # Errors
 /// `Memory`: there is no memory for them.
-pub fn output_of(
+pub fn cells_of(
     alloc: Global,
     aliases: &[SeenAlias<'_>],
     items: &Selected,
-) -> Result<Vec<OutCol>, Memory>
-    ensures { IfOk result (λ output. output.items ≡ spec.output_of (map seen aliases.now) items.now) }
+) -> Result<Vec<Cell>, Memory>
+    ensures { IfOk result (λ cells. cells.items ≡ spec.cells_of (map seen aliases.now) items.now) }
 {
-    let mut output = Vec::new(alloc);
-    push_selected(alloc, aliases, items, &mut output)?;
-    Ok(output)
+    let mut cells = Vec::new(alloc);
+    push_selected(alloc, aliases, items, &mut cells)?;
+    Ok(cells)
+}
+
+/// The cells of one item.
+///
+/// # Errors
+/// `Memory`: there is no memory for them.
+pub fn item_cells(
+    alloc: Global,
+    aliases: &[SeenAlias<'_>],
+    item: &Item,
+) -> Result<Vec<Cell>, Memory>
+    ensures { IfOk result (λ cells. cells.items ≡ spec.item_cells (map seen aliases.now) item.now) }
+{
+    let mut cells = Vec::new(alloc);
+    push_item(alloc, aliases, item, &mut cells)?;
+    Ok(cells)
 }
 
 fn called_fault(aliases: &[SeenAlias<'_>], name: &Name) -> Option<BindFault>
@@ -209,6 +315,32 @@ fn called_fault(aliases: &[SeenAlias<'_>], name: &Name) -> Option<BindFault>
     }
 }
 
+// The fault of a set function's column.
+fn summed_fault(aliases: &[SeenAlias<'_>], kind: AggKind, column: &ColRef) -> Option<BindFault>
+    ensures { result ≡ first_of (spec.summed_faults kind (column_place column.now)
+        (meant (map seen aliases.now) column.now)) }
+{
+    match kind {
+        AggKind::Sum => number_fault(place_of(column), resolve(aliases, column)),
+        AggKind::CountAll | AggKind::Count | AggKind::Min | AggKind::Max => {
+            column_fault(aliases, column)
+        }
+    }
+}
+
+fn agg_fault(
+    aliases: &[SeenAlias<'_>],
+    kind: AggKind,
+    column: &Option<ColRef>,
+) -> Option<BindFault>
+    ensures { result ≡ first_of (spec.agg_faults (map seen aliases.now) kind column.now) }
+{
+    match column {
+        Some(column) => summed_fault(aliases, kind, column),
+        None => None,
+    }
+}
+
 #[tactic(auto, unfolding(crate::specs::Statement::item_faults))]
 fn item_fault(aliases: &[SeenAlias<'_>], item: &Item) -> Option<BindFault>
     ensures { result ≡ first_of (spec.item_faults (map seen aliases.now) item.now) }
@@ -216,6 +348,12 @@ fn item_fault(aliases: &[SeenAlias<'_>], item: &Item) -> Option<BindFault>
     match item {
         Item::AllOf(name) => called_fault(aliases, name),
         Item::Col(column, _) => column_fault(aliases, column),
+        Item::Agg {
+            at: _,
+            kind,
+            column,
+            name: _,
+        } => agg_fault(aliases, *kind, column),
     }
 }
 
@@ -231,9 +369,9 @@ fn items_fault(aliases: &[SeenAlias<'_>], items: &[Item]) -> Option<BindFault>
 }
 
 /// The first fault of a select list.
-#[tactic(auto, unfolding(crate::specs::Statement::output_faults))]
-pub fn output_fault(aliases: &[SeenAlias<'_>], items: &Selected) -> Option<BindFault>
-    ensures { result ≡ first_of (spec.output_faults (map seen aliases.now) items.now) }
+#[tactic(auto, unfolding(crate::specs::Statement::selected_faults))]
+pub fn selected_fault(aliases: &[SeenAlias<'_>], items: &Selected) -> Option<BindFault>
+    ensures { result ≡ first_of (spec.selected_faults (map seen aliases.now) items.now) }
 {
     match items {
         Selected::Star => None,

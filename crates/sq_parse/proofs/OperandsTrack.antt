@@ -324,7 +324,7 @@ module _ (C : Faults) where
   held_unlimited us a (inl h) = h
   held_unlimited us a (inr h) = h
 
-  plain_number : Tracks (rule.number shipped.wide) (rule.number unlimited.wide) (read.plain_number shipped) (read.plain_number unlimited) C unstarred unstarred
+  pub plain_number : Tracks (rule.number shipped.wide) (rule.number unlimited.wide) (read.plain_number shipped) (read.plain_number unlimited) C unstarred unstarred
   unfolding read.plain_number same
   plain_number = along held held_unlimited
       (by_test read.is_starred starred alone (Full-number shipped.narrow) (Full-number shipped.wide) steady_star

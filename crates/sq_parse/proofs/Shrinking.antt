@@ -45,6 +45,10 @@ pub key : Shrinks (after k.Comma read.key)
 unfolding same
 key = Shrinks-exact (exact.after k.Comma refl items.key) (exact.Full-after k.Comma g.key)
 
+pub column : Shrinks (after k.Comma read.column)
+unfolding same
+column = Shrinks-exact (exact.after k.Comma refl operands.column) (exact.Full-after k.Comma g.column)
+
 pub no_and : is k.And k.End ≡ false
 unfolding same
 no_and = refl

@@ -16,22 +16,28 @@ use Rattle.sq_parse.specs.Grammar as g
 use Rattle.sq_parse.specs.Grammar.{Limits}
 use Rattle.sq_parse.specs.Reader as read
 use Rattle.sq_parse.proofs.Exact.{Exact, token, weaker, gives, followed, either, maybe, repeated, after, Full, Full-either, Full-after, Full-gives, Full-right, Full-left, if_ok, and_then_ok, Ok-value, Err-Ok}
-use Rattle.sq_parse.proofs.OperandsExact.{anything}
-use Rattle.sq_parse.proofs.ItemsExact.{source, select_list, keys}
+use Rattle.sq_parse.proofs.OperandsExact.{anything, plain_number}
+use Rattle.sq_parse.proofs.ItemsExact.{source, select_list, keys, extent, columns}
 use Rattle.sq_parse.proofs.ConditionsExact.{ends_condition, condition}
 
 abbrev ends_join : Mark → Bool
-ends_join m = is k.Comma m || is k.Cross m || is k.Inner m || is k.Join m || is k.Where m || is k.Order m || is k.Semicolon m || is k.End m
+ends_join m = is k.Comma m || is k.Cross m || is k.Inner m || is k.Join m || is k.Where m || is k.Group m || is k.Order m || is k.Limit m || is k.Semicolon m || is k.End m
 
--- what comes behind the sources, behind WHERE, and behind a statement
+-- what comes behind the sources, behind WHERE, behind GROUP BY, behind ORDER BY, and behind a statement
 abbrev ends_statement : Mark → Bool
 ends_statement m = is k.Semicolon m || is k.End m
 
+abbrev begins_limit : Mark → Bool
+begins_limit m = is k.Limit m || ends_statement m
+
 abbrev begins_order : Mark → Bool
-begins_order m = is k.Order m || ends_statement m
+begins_order m = is k.Order m || begins_limit m
+
+abbrev begins_groups : Mark → Bool
+begins_groups m = is k.Group m || begins_order m
 
 abbrev begins_where : Mark → Bool
-begins_where m = is k.Where m || begins_order m
+begins_where m = is k.Where m || begins_groups m
 
 module _ (limits : Limits) (nested : (n : ℕ) → limits.narrow n ≡ true → limits.wide n ≡ true) (d : ℕ) where
   joined : Exact ((λ p. joined_on p.1.0 p.1.1) ⊛ (rule.optional (rule.mark k.Inner) ⊗ (rule.after k.Join g.source ⊗ rule.after k.On (g.condition limits d)))) (read.joined limits d) (λ m. is k.Inner m || is k.Join m) ends_condition
@@ -47,21 +53,29 @@ module _ (limits : Limits) (nested : (n : ℕ) → limits.narrow n ≡ true → 
   Full-join = Full-either _ _ (Full-after k.Comma g.source) (Full-either _ _ (Full-after k.Cross (rule.after k.Join g.source))
       (Full-gives (λ p. joined_on p.1.0 p.1.1) (Full-right _ _ (Full-left _ _ (Full-after k.Join g.source)))))
 
-  where_condition : Exact (rule.optional (rule.after k.Where (g.condition limits d))) (read.where_condition limits d) begins_where begins_order
+  where_condition : Exact (rule.optional (rule.after k.Where (g.condition limits d))) (read.where_condition limits d) begins_where begins_groups
   unfolding read.where_condition same
-  where_condition = maybe (is k.Where) begins_order (after k.Where refl (condition limits nested d)) refl refl refl
+  where_condition = maybe (is k.Where) begins_groups (after k.Where refl (condition limits nested d)) refl refl refl
 
-  order : Exact ((λ keys. unwrap_or keys []) ⊛ rule.optional (rule.after k.Order (rule.after k.By (rule.list_of k.Comma g.key)))) read.order begins_order ends_statement
+  groups : Exact g.groups read.groups begins_groups begins_order
+  unfolding read.groups same
+  groups = gives (λ columns. unwrap_or columns []) (maybe (is k.Group) begins_order (after k.Group refl (after k.By refl columns)) refl refl refl)
+
+  order : Exact g.order read.order begins_order begins_limit
   unfolding read.order same
-  order = gives (λ keys. unwrap_or keys []) (maybe (is k.Order) ends_statement (after k.Order refl (after k.By refl keys)) refl refl refl)
+  order = gives (λ keys. unwrap_or keys []) (maybe (is k.Order) begins_limit (after k.Order refl (after k.By refl keys)) refl refl refl)
+
+  limit : Exact (g.limit limits) (read.limit limits) begins_limit ends_statement
+  unfolding read.limit read.count same
+  limit = maybe (is k.Limit) ends_statement (after k.Limit refl (gives (λ n. n.number) (plain_number limits nested))) refl refl refl
 
   pub statement : Exact (g.statement limits d) (read.statement limits d) (is k.Select) ends_statement
   unfolding read.statement read.sources same
-  statement = gives (λ p. statement_of p.1.0 p.1.1.0 p.1.1.1.0 p.1.1.1.1)
-      (after k.Select refl (followed (maybe (is k.All) (λ m. is k.Star m || is_name m) (token (is k.All) refl) refl refl refl)
+  statement = gives (λ p. statement_of p.0 p.1.0 p.1.1.0 p.1.1.1.0 p.1.1.1.1.0 p.1.1.1.1.1.0 p.1.1.1.1.1.1)
+      (after k.Select refl (followed extent
       (followed select_list (followed (after k.From refl (gives (λ p. p.0 ∷ p.1) (followed source
       (repeated (g.join limits d) (read.join limits d) read.begins_join ends_join read.begins_join begins_where join refl refl refl refl Full-join) refl)))
-      (followed where_condition order refl) refl) refl) refl))
+      (followed where_condition (followed groups (followed order limit refl) refl) refl) refl) refl) refl))
 
   -- ---- scripts
 

@@ -16,6 +16,7 @@ use Rattle.sq_parse.proofs.Shrinking.{nested, no_join}
 use Rattle.sq_parse.proofs.StatementsExact as statements_exact
 use Rattle.sq_parse.proofs.Tracks.{Faults, Tracks, any, unstarred, token, weaker, gives, followed, after}
 use Rattle.sq_parse.proofs.Choices.{plainly, either, maybe, repeated}
+use Rattle.sq_parse.proofs.OperandsTrack as operands
 use Rattle.sq_parse.proofs.ItemsTrack as items
 use Rattle.sq_parse.proofs.ConditionsTrack as conditions
 
@@ -43,13 +44,21 @@ module _ (C : Faults) (d d' e : ℕ) (a : d ≤ d') (b : d ≤ e) (deep : C.coun
   unfolding read.where_condition same
   where_condition = maybe (is k.Where) refl (plainly (after k.Where refl refl refl refl condition))
 
-  order : Tracks ((λ keys. unwrap_or keys []) ⊛ rule.optional (rule.after k.Order (rule.after k.By (rule.list_of k.Comma g.key)))) ((λ keys. unwrap_or keys []) ⊛ rule.optional (rule.after k.Order (rule.after k.By (rule.list_of k.Comma g.key)))) read.order read.order C unstarred unstarred
+  groups : Tracks g.groups g.groups read.groups read.groups C unstarred unstarred
+  unfolding read.groups same
+  groups = gives (λ columns. unwrap_or columns []) (maybe (is k.Group) refl (plainly (after k.Group refl refl refl refl (after k.By refl refl refl refl (items.columns C)))))
+
+  order : Tracks g.order g.order read.order read.order C unstarred unstarred
   unfolding read.order same
   order = gives (λ keys. unwrap_or keys []) (maybe (is k.Order) refl (plainly (after k.Order refl refl refl refl (after k.By refl refl refl refl (items.keys C)))))
 
+  limit : Tracks (g.limit shipped) (g.limit unlimited) (read.limit shipped) (read.limit unlimited) C unstarred unstarred
+  unfolding read.limit read.count same
+  limit = maybe (is k.Limit) refl (plainly (after k.Limit refl refl refl refl (gives (λ n. n.number) (operands.plain_number C))))
+
   pub statement : Tracks (g.statement shipped d) (g.statement unlimited e) (read.statement shipped d) (read.statement unlimited d') C any unstarred
   unfolding read.statement same
-  statement = gives (λ p. statement_of p.1.0 p.1.1.0 p.1.1.1.0 p.1.1.1.1)
-      (after k.Select refl refl refl refl (followed (maybe (is k.All) refl (weaker any any (token C (is k.All) unstarred k.All refl refl refl refl) refl refl))
+  statement = gives (λ p. statement_of p.0 p.1.0 p.1.1.0 p.1.1.1.0 p.1.1.1.1.0 p.1.1.1.1.1.0 p.1.1.1.1.1.1)
+      (after k.Select refl refl refl refl (followed (items.extent C)
       (followed (items.select_list C) (followed (after k.From refl refl refl refl sources)
-      (followed where_condition order refl) refl) refl) refl))
+      (followed where_condition (followed groups (followed order limit refl) refl) refl) refl) refl) refl))

@@ -76,8 +76,8 @@ module _ (limits : Limits) where
         (then (rule.after k.Join g.source) (rule.after k.Join g.source) _ _ (same_rule (rule.after k.Join g.source)) (after k.On _ _ condition)))))
 
     statement : Sub (g.statement limits d) (g.statement limits e)
-    statement = gives (λ p. statement_of p.1.0 p.1.1.0 p.1.1.1.0 p.1.1.1.1) _ _ (after k.Select _ _
-        (then (rule.optional (rule.mark k.All)) (rule.optional (rule.mark k.All)) _ _ (same_rule (rule.optional (rule.mark k.All)))
+    statement = gives (λ p. statement_of p.0 p.1.0 p.1.1.0 p.1.1.1.0 p.1.1.1.1.0 p.1.1.1.1.1.0 p.1.1.1.1.1.1) _ _ (after k.Select _ _
+        (then g.extent g.extent _ _ (same_rule g.extent)
         (then g.select_list g.select_list _ _ (same_rule g.select_list)
         (then _ _ _ _ (after k.From _ _ (gives (λ p. p.0 ∷ p.1) _ _ (then g.source g.source _ _ (same_rule g.source) (many (g.join limits d) (g.join limits e) join))))
         (then _ _ _ _ (maybe _ _ (after k.Where _ _ condition)) (same_rule _))))))

@@ -1,5 +1,5 @@
 -- The grammar of scripts: which lists of tokens stand for which trees.
-use Rattle.std.specs.Prelude.{ℕ, zero, suc, Bool, nat_le, [], ◌∷◌, Some, None, is_some, option_map, unwrap_or, false}
+use Rattle.std.specs.Prelude.{ℕ, zero, suc, Bool, nat_le, [], ◌∷◌, Some, None, is_some, option_map, unwrap_or, false, List, Option}
 use Rattle.sq_token.specs.declared.mark.Mark.TheVariants as k
 use Rattle.sq_parse.specs.declared.tree.Name.{Name}
 use Rattle.sq_parse.specs.declared.tree.ColRef.{ColRef}
@@ -16,8 +16,11 @@ use Rattle.sq_parse.specs.declared.tree.Operand.{Operand}
 use Rattle.sq_parse.specs.declared.tree.Operand.TheVariants as o
 use Rattle.sq_parse.specs.declared.tree.Tree.{Tree}
 use Rattle.sq_parse.specs.declared.tree.Tree.TheVariants as t
-use Rattle.sq_token.specs.Mark.{is, is_name, is_sign, is_comparison, is_truth_word, is_way, is_end}
-use Rattle.sq_parse.specs.Tree.{name_of, column_of, number_term, column_term, signed, sum_of, begin_of, comparison_by, tested, all_of, any_of, source_of, joined_on, way_of, statement_of}
+use Rattle.sq_token.specs.Tok.{Tok}
+use Rattle.sq_expr.specs.declared.shape.AggKind.{AggKind}
+use Rattle.sq_expr.specs.declared.shape.AggKind.TheVariants as agg
+use Rattle.sq_token.specs.Mark.{is, is_name, is_sign, is_comparison, is_truth_word, is_extent, is_reckoned, is_way, is_end}
+use Rattle.sq_parse.specs.Tree.{name_of, column_of, number_term, column_term, signed, sum_of, begin_of, comparison_by, tested, all_of, any_of, source_of, joined_on, way_of, reckoned_by, agg_item, statement_of}
 use Rattle.sq_parse.specs.Rules.{Rule, token, mark, number, ◌⊗◌, ◌⊕◌, ◌⊛◌, optional, many, after, separated, list_of, enclosed, nothing}
 
 -- which numbers may be written: those beside a `*`, and all others
@@ -45,9 +48,22 @@ abbrev pub alias : Rule Name
 alias = (λ p. p.1) ⊛ (optional (mark k.As) ⊗ name)
 
 -- name "." "*" | column [ [ AS ] name ]
-abbrev pub item : Rule Item
-item = (λ p. shown.AllOf p.0) ⊛ (name ⊗ after k.Dot (mark k.Star)) ⊕ (λ p. shown.Col p.0 p.1)
+abbrev pub plain_item : Rule Item
+plain_item = (λ p. shown.AllOf p.0) ⊛ (name ⊗ after k.Dot (mark k.Star)) ⊕ (λ p. shown.Col p.0 p.1)
     ⊛ (column ⊗ optional alias)
+
+-- "*" | column
+abbrev pub counted : Rule (AggKind × Option ColRef)
+counted = (λ _. (agg.CountAll, None)) ⊛ mark k.Star ⊕ (λ c. (agg.Count, Some c)) ⊛ column
+
+-- COUNT "(" ( "*" | column ) ")" | ( SUM | MIN | MAX ) "(" column ")"
+abbrev pub aggregate : Rule (ℕ × (AggKind × Option ColRef))
+aggregate = (λ p. (p.0.at, p.1)) ⊛ (mark k.Count ⊗ enclosed counted)
+    ⊕ (λ p. (p.0.at, (reckoned_by p.0.mark, Some p.1))) ⊛ (token is_reckoned ⊗ enclosed column)
+
+-- aggregate [ [ AS ] name ] | plain item
+abbrev pub item : Rule Item
+item = (λ p. agg_item p.0.0 p.0.1.0 p.0.1.1 p.1) ⊛ (aggregate ⊗ optional alias) ⊕ plain_item
 
 -- "*" | item { "," item }
 abbrev pub select_list : Rule Items
@@ -63,6 +79,18 @@ key = (λ p. record { column = p.0; way = way_of p.1.0 p.1.1 })
     ⊛ (column ⊗ ((λ way. unwrap_or (option_map (λ w. is k.Desc w.mark) way) false) ⊛ optional (token is_way)
     ⊗ (λ end. option_map (λ e. is k.First e.mark) end) ⊛ optional (after k.Nulls (token is_end))))
 
+-- [ ALL | DISTINCT ]: whether it is DISTINCT
+abbrev pub extent : Rule Bool
+extent = (λ extent. unwrap_or (option_map (λ w. is k.Distinct w.mark) extent) false) ⊛ optional (token is_extent)
+
+-- [ GROUP BY column { "," column } ]
+abbrev pub groups : Rule (List ColRef)
+groups = (λ columns. unwrap_or columns []) ⊛ optional (after k.Group (after k.By (list_of k.Comma column)))
+
+-- [ ORDER BY key { "," key } ]
+abbrev pub order : Rule (List OrderItem)
+order = (λ keys. unwrap_or keys []) ⊛ optional (after k.Order (after k.By (list_of k.Comma key)))
+
 -- neg { AND neg }
 abbrev pub conjunction : Rule Tree → Rule Tree
 conjunction neg = (λ p. all_of p.0 p.1) ⊛ separated k.And neg
@@ -72,6 +100,10 @@ abbrev pub disjunction : Rule Tree → Rule Tree
 disjunction neg = (λ p. any_of p.0 p.1) ⊛ separated k.Or (conjunction neg)
 
 module _ (limits : Limits) where
+  -- [ LIMIT number ]
+  abbrev pub limit : Rule (Option ℕ)
+  limit = optional (after k.Limit ((λ n. n.number) ⊛ number limits.wide))
+
   -- number | number "*" column
   abbrev pub number_led : Rule RawTerm
   number_led = (λ n. number_term n None) ⊛ number limits.wide
@@ -153,13 +185,13 @@ module _ (limits : Limits) where
   join d = after k.Comma source ⊕ after k.Cross (after k.Join source)
       ⊕ (λ p. joined_on p.1.0 p.1.1) ⊛ (optional (mark k.Inner) ⊗ (after k.Join source ⊗ after k.On (condition d)))
 
-  -- SELECT [ ALL ] items FROM source { join } [ WHERE cond ] [ ORDER BY key { "," key } ]
+  -- SELECT [ ALL | DISTINCT ] items FROM source { join } [ WHERE cond ] [ GROUP BY column { "," column } ]
+  -- [ ORDER BY key { "," key } ] [ LIMIT number ]
   abbrev pub statement : ℕ → Rule Statement
-  statement d = (λ p. statement_of p.1.0 p.1.1.0 p.1.1.1.0 p.1.1.1.1)
-      ⊛ after k.Select (optional (mark k.All) ⊗ (select_list
+  statement d = (λ p. statement_of p.0 p.1.0 p.1.1.0 p.1.1.1.0 p.1.1.1.1.0 p.1.1.1.1.1.0 p.1.1.1.1.1.1)
+      ⊛ after k.Select (extent ⊗ (select_list
       ⊗ (after k.From ((λ p. p.0 ∷ p.1) ⊛ (source ⊗ many (join d)))
-      ⊗ (optional (after k.Where (condition d)) ⊗ (λ keys. unwrap_or keys [])
-      ⊛ optional (after k.Order (after k.By (list_of k.Comma key)))))))
+      ⊗ (optional (after k.Where (condition d)) ⊗ (groups ⊗ (order ⊗ limit))))))
 
   -- statement { ";" statement } [ ";" ]
   abbrev pub script : ℕ → Rule Script

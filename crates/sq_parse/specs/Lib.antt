@@ -13,3 +13,4 @@ pub mod Spelling
 pub mod Fault
 pub mod Reader
 pub mod Parse
+pub mod Shaped

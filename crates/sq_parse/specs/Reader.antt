@@ -19,9 +19,11 @@ use Rattle.sq_parse.specs.declared.tree.Operand.{Operand}
 use Rattle.sq_parse.specs.declared.tree.Operand.TheVariants as o
 use Rattle.sq_parse.specs.declared.tree.Tree.{Tree}
 use Rattle.sq_parse.specs.declared.tree.Tree.TheVariants as t
-use Rattle.sq_token.specs.Mark.{is, is_name, is_sign, is_comparison, is_truth_word, is_way, is_end}
+use Rattle.sq_expr.specs.declared.shape.AggKind.{AggKind}
+use Rattle.sq_expr.specs.declared.shape.AggKind.TheVariants as agg
+use Rattle.sq_token.specs.Mark.{is, is_name, is_sign, is_comparison, is_truth_word, is_extent, is_agg, is_reckoned, is_way, is_end}
 use Rattle.sq_token.specs.Tok.{Tok, next, behind, done}
-use Rattle.sq_parse.specs.Tree.{name_of, column_of, number_term, column_term, signed, sum_of, begin_of, comparison_by, truth_by, tested, all_of, any_of, source_of, joined_on, statement_of}
+use Rattle.sq_parse.specs.Tree.{name_of, column_of, number_term, column_term, signed, sum_of, begin_of, comparison_by, truth_by, tested, all_of, any_of, source_of, joined_on, reckoned_by, agg_item, statement_of}
 use Rattle.sq_parse.specs.Reading.{Parser, pure, ◌>>=◌, ◌<$>◌, ◌<+>◌, token, mark, number, choose, optional, many, after, separated, list_of, enclosed, refuse}
 use Rattle.sq_parse.specs.Grammar.{Limits}
 
@@ -76,8 +78,31 @@ behind_dot n = choose (is k.Star) ((λ _. shown.AllOf n) <$> mark k.Star)
 unfoldable pub behind_name : Name → Parser Item
 behind_name n = choose (is k.Dot) (after k.Dot (behind_dot n)) (column_item (column_of n None))
 
+unfoldable pub plain_item : Parser Item
+plain_item = name >>= behind_name
+
+-- what is counted
+unfoldable pub counted : Parser (AggKind × Option ColRef)
+counted = choose (is k.Star) ((λ _. (agg.CountAll, None)) <$> mark k.Star) ((λ c. (agg.Count, Some c)) <$> column)
+
+unfoldable pub count_of : Parser (ℕ × (AggKind × Option ColRef))
+count_of = (λ p. (p.0.at, p.1)) <$> (mark k.Count <+> enclosed counted)
+
+unfoldable pub reckoned : Parser (ℕ × (AggKind × Option ColRef))
+reckoned = (λ p. (p.0.at, (reckoned_by p.0.mark, Some p.1))) <$> (token is_reckoned <+> enclosed column)
+
+unfoldable pub aggregate : Parser (ℕ × (AggKind × Option ColRef))
+aggregate = choose (is k.Count) count_of reckoned
+
+unfoldable pub aggregate_item : Parser Item
+aggregate_item = (λ p. agg_item p.0.0 p.0.1.0 p.0.1.1 p.1) <$> (aggregate <+> optional_alias)
+
+-- whether an aggregate comes next: its word, and a parenthesis
+abbrev pub begins_agg : List Tok → Bool
+begins_agg ts = is_agg (next ts) && is k.Open (next (behind ts))
+
 unfoldable pub item : Parser Item
-item = name >>= behind_name
+item = λ ts. if begins_agg ts then aggregate_item ts else plain_item ts
 
 unfoldable pub items : Parser (List Item)
 items = list_of k.Comma item
@@ -105,6 +130,17 @@ keys = list_of k.Comma key
 
 unfoldable pub order : Parser (List OrderItem)
 order = (λ keys. unwrap_or keys []) <$> optional (is k.Order) (after k.Order (after k.By keys))
+
+-- whether DISTINCT comes next; ALL may come in its place
+unfoldable pub extent : Parser Bool
+extent = (λ extent. unwrap_or (option_map (λ w. is k.Distinct w.mark) extent) false)
+    <$> optional is_extent (token is_extent)
+
+unfoldable pub columns : Parser (List ColRef)
+columns = list_of k.Comma column
+
+unfoldable pub groups : Parser (List ColRef)
+groups = (λ columns. unwrap_or columns []) <$> optional (is k.Group) (after k.Group (after k.By columns))
 
 unfoldable pub conjunction : Parser Tree → Parser Tree
 conjunction neg = (λ p. all_of p.0 p.1) <$> separated k.And neg
@@ -239,10 +275,16 @@ module _ (limits : Limits) where
   unfoldable pub sources : ℕ → Parser (List Source)
   sources d = (λ p. p.0 ∷ p.1) <$> (source <+> many begins_join (join d))
 
+  unfoldable pub count : Parser ℕ
+  count = (λ n. n.number) <$> plain_number
+
+  unfoldable pub limit : Parser (Option ℕ)
+  limit = optional (is k.Limit) (after k.Limit count)
+
   unfoldable pub statement : ℕ → Parser Statement
-  statement d = (λ p. statement_of p.1.0 p.1.1.0 p.1.1.1.0 p.1.1.1.1)
-      <$> after k.Select (optional (is k.All) (mark k.All)
-      <+> (select_list <+> (after k.From (sources d) <+> (where_condition d <+> order))))
+  statement d = (λ p. statement_of p.0 p.1.0 p.1.1.0 p.1.1.1.0 p.1.1.1.1.0 p.1.1.1.1.1.0 p.1.1.1.1.1.1)
+      <$> after k.Select (extent
+      <+> (select_list <+> (after k.From (sources d) <+> (where_condition d <+> (groups <+> (order <+> limit))))))
 
   -- why no further statement is read
   abbrev pub no_more : Parser (List Statement)

@@ -1,5 +1,5 @@
 -- What the parts of the grammar stand for.
-use Rattle.std.specs.Prelude.{ℕ, pos, Bool, false, List, [], ◌∷◌, Option, Some, None, is_some, option_map, unwrap_or}
+use Rattle.std.specs.Prelude.{ℕ, pos, Bool, false, List, [], ◌∷◌, Option, Some, None, is_some, option_map, unwrap_or, if◌then◌else◌}
 use Rattle.sq_value.specs.declared.value.Cmp.{Cmp}
 use Rattle.sq_value.specs.declared.value.Cmp.TheVariants as cmp
 use Rattle.sq_value.specs.declared.value.SortWay.{SortWay}
@@ -10,6 +10,10 @@ use Rattle.sq_token.specs.declared.mark.Mark.TheVariants as k
 use Rattle.sq_parse.specs.declared.tree.Name.{Name}
 use Rattle.sq_parse.specs.declared.tree.ColRef.{ColRef}
 use Rattle.sq_parse.specs.declared.tree.Items.{Items}
+use Rattle.sq_parse.specs.declared.tree.Item.{Item}
+use Rattle.sq_parse.specs.declared.tree.Item.TheVariants as shown
+use Rattle.sq_expr.specs.declared.shape.AggKind.{AggKind}
+use Rattle.sq_expr.specs.declared.shape.AggKind.TheVariants as agg
 use Rattle.sq_parse.specs.declared.tree.Source.{Source}
 use Rattle.sq_parse.specs.declared.tree.OrderItem.{OrderItem}
 use Rattle.sq_parse.specs.declared.tree.Statement.{Statement}
@@ -103,10 +107,21 @@ joined_on source tree = record source { on = Some tree }
 abbrev pub way_of : Bool → Option Bool → SortWay
 way_of falls nulls_first = record { descending = falls; nulls_first = unwrap_or nulls_first falls }
 
-abbrev pub statement_of : Items → List Source → Option Tree → List OrderItem → Statement
-statement_of selected sources condition keys = record {
+-- the aggregate of values that a word names
+abbrev pub reckoned_by : Mark → AggKind
+reckoned_by m = if is k.Sum m then agg.Sum else (if is k.Min m then agg.Min else agg.Max)
+
+-- an aggregate by its place, what it is of, and its name
+abbrev pub agg_item : ℕ → AggKind → Option ColRef → Option Name → Item
+agg_item at kind column name = shown.Agg at kind column name
+
+abbrev pub statement_of : Bool → Items → List Source → Option Tree → List ColRef → List OrderItem → Option ℕ → Statement
+statement_of distinct selected sources condition groups keys limit = record {
+  distinct = distinct;
   items = selected;
   sources = sources;
   condition = condition;
+  groups = groups;
   order = keys;
+  limit = limit;
 }

@@ -9,7 +9,8 @@ use crate::cursor::Cursor;
 use crate::names::{column, name};
 use crate::stop::Stop;
 use crate::tree::{ColRef, Item, Items, Name, OrderItem, Source};
-use sq_token::{Mark, is_name, same};
+use sq_expr::AggKind;
+use sq_token::{Mark, is_agg, is_name, is_reckoned, same};
 use sq_value::{SortWay, SqText};
 use sqlite_items::Items as List;
 use std::alloc::Global;
@@ -82,12 +83,115 @@ fn behind_name(alloc: Global, tokens: &mut Cursor<'_>, first: Name) -> Result<It
     )
 }
 
+// All columns of an alias, or a column.
+#[tactic(auto, unfolding(crate::specs::Reader::plain_item))]
+fn plain_item(alloc: Global, tokens: &mut Cursor<'_>) -> Result<Item, Stop>
+    ensures { Reads (spec.plain_item tokens.old) result tokens.new }
+{
+    let first = name(alloc, tokens)?;
+    behind_name(alloc, tokens, first)
+}
+
+// What COUNT is of: all members, or a column.
+#[tactic(auto, unfolding(crate::specs::Reader::counted))]
+fn counted(alloc: Global, tokens: &mut Cursor<'_>) -> Result<(AggKind, Option<ColRef>), Stop>
+    ensures { Reads (spec.counted tokens.old) result tokens.new }
+{
+    if tokens.eat(Mark::Star) {
+        return Ok((AggKind::CountAll, None));
+    }
+    let of = column(alloc, tokens)?;
+    Ok((AggKind::Count, Some(of)))
+}
+
+// COUNT and what it is of.
+#[tactic(auto, unfolding(crate::specs::Reader::count_of))]
+fn count_of(
+    alloc: Global,
+    tokens: &mut Cursor<'_>,
+) -> Result<(u32, (AggKind, Option<ColRef>)), Stop>
+    ensures { Reads (spec.count_of tokens.old) result tokens.new }
+{
+    let at = tokens.at();
+    tokens.expect(Mark::Count)?;
+    tokens.expect(Mark::Open)?;
+    let of = counted(alloc, tokens)?;
+    tokens.expect(Mark::Close)?;
+    Ok((at, of))
+}
+
+// The aggregate of values that a word names.
+fn reckoned_by(mark: Mark) -> AggKind
+    ensures { result ≡ tree.reckoned_by mark }
+{
+    if same(mark, Mark::Sum) {
+        AggKind::Sum
+    } else if same(mark, Mark::Min) {
+        AggKind::Min
+    } else {
+        AggKind::Max
+    }
+}
+
+// SUM, MIN or MAX, and the column that it is of.
+#[tactic(auto, unfolding(crate::specs::Reader::reckoned))]
+fn reckoned(
+    alloc: Global,
+    tokens: &mut Cursor<'_>,
+) -> Result<(u32, (AggKind, Option<ColRef>)), Stop>
+    ensures { Reads (spec.reckoned tokens.old) result tokens.new }
+{
+    let at = tokens.at();
+    let mark = tokens.peek();
+    if !is_reckoned(mark) {
+        return Err(Stop::Syntax);
+    }
+    tokens.advance();
+    tokens.expect(Mark::Open)?;
+    let of = column(alloc, tokens)?;
+    tokens.expect(Mark::Close)?;
+    Ok((at, (reckoned_by(mark), Some(of))))
+}
+
+// An aggregate.
+#[tactic(auto, unfolding(crate::specs::Reader::aggregate))]
+fn aggregate(
+    alloc: Global,
+    tokens: &mut Cursor<'_>,
+) -> Result<(u32, (AggKind, Option<ColRef>)), Stop>
+    ensures { Reads (spec.aggregate tokens.old) result tokens.new }
+{
+    if tokens.sees(Mark::Count) {
+        count_of(alloc, tokens)
+    } else {
+        reckoned(alloc, tokens)
+    }
+}
+
+// An aggregate and the name that it gets.
+#[tactic(auto, unfolding(crate::specs::Reader::aggregate_item))]
+fn aggregate_item(alloc: Global, tokens: &mut Cursor<'_>) -> Result<Item, Stop>
+    ensures { Reads (spec.aggregate_item tokens.old) result tokens.new }
+{
+    let (at, (kind, column)) = aggregate(alloc, tokens)?;
+    let name = optional_alias(alloc, tokens)?;
+    Ok(Item::Agg {
+        at,
+        kind,
+        column,
+        name,
+    })
+}
+
 #[tactic(auto, unfolding(crate::specs::Reader::item))]
 fn item(alloc: Global, tokens: &mut Cursor<'_>) -> Result<Item, Stop>
     ensures { Reads (spec.item tokens.old) result tokens.new }
 {
-    let first = name(alloc, tokens)?;
-    behind_name(alloc, tokens, first)
+    if is_agg(tokens.peek()) && same(tokens.second(), Mark::Open) {
+        aggregate_item(alloc, tokens)
+    } else {
+        plain_item(alloc, tokens)
+    }
 }
 
 // Items with commas between.
@@ -197,6 +301,45 @@ fn keys(alloc: Global, tokens: &mut Cursor<'_>) -> Result<List<OrderItem>, Stop>
         tokens.advance();
         found.push(key(alloc, tokens)?)?;
     }
+    Ok(found)
+}
+
+/// DISTINCT, ALL or nothing: whether it is DISTINCT.
+#[tactic(auto, unfolding(crate::specs::Reader::extent))]
+pub fn extent(tokens: &mut Cursor<'_>) -> bool
+    ensures { spec.extent tokens.old ≡ Ok (result, tokens.new) }
+{
+    let distinct = tokens.eat(Mark::Distinct);
+    if !distinct {
+        tokens.eat(Mark::All);
+    }
+    distinct
+}
+
+/// Columns with commas between.
+#[tactic(auto, unfolding(crate::specs::Reader::columns))]
+fn columns(alloc: Global, tokens: &mut Cursor<'_>) -> Result<List<ColRef>, Stop>
+    ensures { Reads (spec.columns tokens.old) result tokens.new }
+{
+    let mut found = List::new(alloc);
+    found.push(column(alloc, tokens)?)?;
+    'more: while tokens.sees(Mark::Comma) {
+        tokens.advance();
+        found.push(column(alloc, tokens)?)?;
+    }
+    Ok(found)
+}
+
+/// GROUP BY and its columns; none where it isn't written.
+#[tactic(auto, unfolding(crate::specs::Reader::groups))]
+pub fn groups(alloc: Global, tokens: &mut Cursor<'_>) -> Result<List<ColRef>, Stop>
+    ensures { Reads (spec.groups tokens.old) result tokens.new }
+{
+    if !tokens.eat(Mark::Group) {
+        return Ok(List::new(alloc));
+    }
+    tokens.expect(Mark::By)?;
+    let found = columns(alloc, tokens)?;
     Ok(found)
 }
 

@@ -9,7 +9,7 @@ ghost use Rattle.sq_parse.specs.Reader as spec;
 
 use crate::condition::condition;
 use crate::cursor::Cursor;
-use crate::select::{order, select_list, source};
+use crate::select::{extent, groups, order, select_list, source};
 use crate::stop::Stop;
 use crate::tree::{Script, Source, Statement, Tree};
 use sq_token::{Mark, same};
@@ -20,6 +20,10 @@ use std::alloc::Global;
 const MAX_DEPTH: u8 = 64;
 /// How many statements a script may have.
 const MAX_STATEMENTS: u8 = 64;
+/// The greatest number beside a `*`, which no LIMIT has; but a greater one there is told as too large.
+const MAX_FACTOR: u64 = 2_147_483_647;
+/// The greatest number of a LIMIT.
+const MAX_LIMIT: u64 = 9_223_372_036_854_775_807;
 
 // ON and its condition.
 fn joined_by(alloc: Global, tokens: &mut Cursor<'_>) -> Result<Tree, Stop>
@@ -108,23 +112,61 @@ fn where_condition(alloc: Global, tokens: &mut Cursor<'_>) -> Result<Option<Tree
     Ok(Some(found))
 }
 
+// The number behind LIMIT.
+#[tactic(auto, unfolding(crate::specs::Reader::count, crate::specs::Reader::plain_number))]
+fn count(tokens: &mut Cursor<'_>) -> Result<u64, Stop>
+    ensures { Reads (spec.count shipped tokens.old) result tokens.new }
+{
+    if !tokens.sees(Mark::Number) {
+        return Err(Stop::Syntax);
+    }
+    let bound = if same(tokens.second(), Mark::Star) {
+        MAX_FACTOR
+    } else {
+        MAX_LIMIT
+    };
+    let count = tokens.number();
+    if count > bound {
+        return Err(Stop::NumberTooLarge);
+    }
+    tokens.advance();
+    Ok(count)
+}
+
+// LIMIT and its number, if it is written.
+#[tactic(auto, unfolding(crate::specs::Reader::limit))]
+fn limit(tokens: &mut Cursor<'_>) -> Result<Option<u64>, Stop>
+    ensures { Reads (spec.limit shipped tokens.old) result tokens.new }
+{
+    if !tokens.eat(Mark::Limit) {
+        return Ok(None);
+    }
+    let found = count(tokens)?;
+    Ok(Some(found))
+}
+
 // A SELECT statement.
 #[tactic(auto, unfolding(crate::specs::Reader::statement, crate::specs::Reader::sources))]
 fn statement(alloc: Global, tokens: &mut Cursor<'_>) -> Result<Statement, Stop>
     ensures { Reads (spec.statement shipped 64 tokens.old) result tokens.new }
 {
     tokens.expect(Mark::Select)?;
-    tokens.eat(Mark::All);
+    let distinct = extent(tokens);
     let items = select_list(alloc, tokens)?;
     tokens.expect(Mark::From)?;
     let sources = sources(alloc, tokens)?;
     let condition = where_condition(alloc, tokens)?;
+    let groups = groups(alloc, tokens)?;
     let order = order(alloc, tokens)?;
+    let limit = limit(tokens)?;
     Ok(Statement {
+        distinct,
         items,
         sources,
         condition,
+        groups,
         order,
+        limit,
     })
 }
 

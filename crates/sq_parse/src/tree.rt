@@ -1,5 +1,6 @@
 //! What a script says, as a tree with the places of its parts.
 
+use sq_expr::AggKind;
 use sq_value::{Cmp, SortWay, SqText, Truth};
 use sqlite_items::{Boxed, Items as List};
 
@@ -24,11 +25,18 @@ pub enum Items {
     List(List<Item>),
 }
 
-/// An item of a select list: all columns of an alias, or a column and the name that it gets.
+/// An item of a select list: all columns of an alias, a column and the name that it gets, or an aggregate and the name
+/// that it gets. `at` is the aggregate's place, and `COUNT(*)` has no column.
 #[derive(Debug, Drop)]
 pub enum Item {
     AllOf(Name),
     Col(ColRef, Option<Name>),
+    Agg {
+        at: u32,
+        kind: AggKind,
+        column: Option<ColRef>,
+        name: Option<Name>,
+    },
 }
 
 /// A table of FROM under its alias, which is its own name where none is written, and the condition
@@ -47,13 +55,16 @@ pub struct OrderItem {
     pub way: SortWay,
 }
 
-/// A SELECT statement.
+/// A SELECT statement. `distinct` stands for DISTINCT, `groups` for the columns of GROUP BY, and `limit` for LIMIT.
 #[derive(Debug, Drop)]
 pub struct Statement {
+    pub distinct: bool,
     pub items: Items,
     pub sources: List<Source>,
     pub condition: Option<Tree>,
+    pub groups: List<ColRef>,
     pub order: List<OrderItem>,
+    pub limit: Option<u64>,
 }
 
 /// A script: 1 to 64 statements, in order.

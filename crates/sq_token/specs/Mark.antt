@@ -18,21 +18,24 @@ abbrev pub look_up : List (Text × Mark) → Text → Mark
 look_up [] word = k.Name
 look_up (e ∷ es) word = if same_word e.0 word then e.1 else look_up es word
 
--- the words that a rule or nothing uses: the reserved ones, and FIRST, LAST and NULLS, which are names too
+-- the words that a rule or nothing uses: the reserved ones, and FIRST, LAST, NULLS and the aggregates', which are names
+-- too
 abbrev pub words : List (Text × Mark)
 words =
     (codes "all", k.All) ∷ (codes "and", k.And) ∷ (codes "as", k.As) ∷ (codes "asc", k.Asc)
     ∷ (codes "between", k.Between) ∷ (codes "by", k.By) ∷ (codes "case", k.Reserved) ∷ (codes "cast", k.Reserved)
-    ∷ (codes "cross", k.Cross) ∷ (codes "desc", k.Desc) ∷ (codes "distinct", k.Reserved) ∷ (codes "exists", k.Reserved)
+    ∷ (codes "count", k.Count)
+    ∷ (codes "cross", k.Cross) ∷ (codes "desc", k.Desc) ∷ (codes "distinct", k.Distinct) ∷ (codes "exists", k.Reserved)
     ∷ (codes "false", k.False) ∷ (codes "first", k.First) ∷ (codes "from", k.From) ∷ (codes "full", k.Reserved)
-    ∷ (codes "group", k.Reserved)
+    ∷ (codes "group", k.Group)
     ∷ (codes "having", k.Reserved) ∷ (codes "in", k.In) ∷ (codes "inner", k.Inner) ∷ (codes "is", k.Is)
     ∷ (codes "join", k.Join) ∷ (codes "last", k.Last) ∷ (codes "left", k.Reserved) ∷ (codes "like", k.Reserved)
-    ∷ (codes "limit", k.Reserved)
+    ∷ (codes "limit", k.Limit) ∷ (codes "max", k.Max) ∷ (codes "min", k.Min)
     ∷ (codes "natural", k.Reserved) ∷ (codes "not", k.Not) ∷ (codes "null", k.Null) ∷ (codes "nulls", k.Nulls)
     ∷ (codes "on", k.On)
     ∷ (codes "or", k.Or) ∷ (codes "order", k.Order) ∷ (codes "outer", k.Reserved) ∷ (codes "right", k.Reserved)
-    ∷ (codes "select", k.Select) ∷ (codes "true", k.True) ∷ (codes "union", k.Reserved) ∷ (codes "unknown", k.Unknown)
+    ∷ (codes "select", k.Select) ∷ (codes "sum", k.Sum) ∷ (codes "true", k.True) ∷ (codes "union", k.Reserved)
+    ∷ (codes "unknown", k.Unknown)
     ∷ (codes "using", k.Reserved) ∷ (codes "where", k.Where)
     ∷ []
 
@@ -70,7 +73,15 @@ abbrev pub is : Mark → Mark → Bool
 is wanted m = same m wanted
 
 abbrev pub is_name : Mark → Bool
-is_name m = is k.Name m || is k.First m || is k.Last m || is k.Nulls m
+is_name m =
+    is k.Name m || is k.Count m || is k.First m || is k.Last m || is k.Max m || is k.Min m || is k.Nulls m || is k.Sum m
+
+-- the word of an aggregate of values, and of any aggregate
+abbrev pub is_reckoned : Mark → Bool
+is_reckoned m = is k.Sum m || is k.Min m || is k.Max m
+
+abbrev pub is_agg : Mark → Bool
+is_agg m = is k.Count m || is_reckoned m
 
 abbrev pub is_sign : Mark → Bool
 is_sign m = is k.Plus m || is k.Minus m
@@ -83,6 +94,9 @@ abbrev pub is_truth_word : Mark → Bool
 is_truth_word m = is k.True m || is k.False m || is k.Unknown m
 
 -- ASC or DESC, and FIRST or LAST
+abbrev pub is_extent : Mark → Bool
+is_extent m = is k.All m || is k.Distinct m
+
 abbrev pub is_way : Mark → Bool
 is_way m = is k.Asc m || is k.Desc m
 

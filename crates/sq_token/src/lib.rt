@@ -8,6 +8,6 @@ mod quoted;
 mod token;
 
 pub use form::Form;
-pub use mark::{Mark, is_comparison, is_name, is_sign, mark_of, same};
+pub use mark::{Mark, is_agg, is_comparison, is_name, is_reckoned, is_sign, mark_of, same};
 pub use piece::{Drawn, draw};
 pub use token::{Span, Token, TokenKind, name_content, text_content, tokens};

@@ -16,12 +16,15 @@ pub enum Mark {
     By,
     Cross,
     Desc,
+    Distinct,
     False,
     From,
+    Group,
     In,
     Inner,
     Is,
     Join,
+    Limit,
     Not,
     Null,
     On,
@@ -33,10 +36,14 @@ pub enum Mark {
     Where,
     /// A reserved word that no rule uses.
     Reserved,
-    // Words that aren't reserved, but stand for themselves in an ORDER BY.
+    // Words that aren't reserved, but stand for themselves in an ORDER BY or as an aggregate.
+    Count,
     First,
     Last,
+    Max,
+    Min,
     Nulls,
+    Sum,
     /// A word that isn't reserved, or a delimited name.
     Name,
     Number,
@@ -61,7 +68,7 @@ pub enum Mark {
     End,
 }
 
-const WORDS: [(&[u8], Mark); 41] = [
+const WORDS: [(&[u8], Mark); 45] = [
     (b"all", Mark::All),
     (b"and", Mark::And),
     (b"as", Mark::As),
@@ -70,15 +77,16 @@ const WORDS: [(&[u8], Mark); 41] = [
     (b"by", Mark::By),
     (b"case", Mark::Reserved),
     (b"cast", Mark::Reserved),
+    (b"count", Mark::Count),
     (b"cross", Mark::Cross),
     (b"desc", Mark::Desc),
-    (b"distinct", Mark::Reserved),
+    (b"distinct", Mark::Distinct),
     (b"exists", Mark::Reserved),
     (b"false", Mark::False),
     (b"first", Mark::First),
     (b"from", Mark::From),
     (b"full", Mark::Reserved),
-    (b"group", Mark::Reserved),
+    (b"group", Mark::Group),
     (b"having", Mark::Reserved),
     (b"in", Mark::In),
     (b"inner", Mark::Inner),
@@ -87,7 +95,9 @@ const WORDS: [(&[u8], Mark); 41] = [
     (b"last", Mark::Last),
     (b"left", Mark::Reserved),
     (b"like", Mark::Reserved),
-    (b"limit", Mark::Reserved),
+    (b"limit", Mark::Limit),
+    (b"max", Mark::Max),
+    (b"min", Mark::Min),
     (b"natural", Mark::Reserved),
     (b"not", Mark::Not),
     (b"null", Mark::Null),
@@ -98,6 +108,7 @@ const WORDS: [(&[u8], Mark); 41] = [
     (b"outer", Mark::Reserved),
     (b"right", Mark::Reserved),
     (b"select", Mark::Select),
+    (b"sum", Mark::Sum),
     (b"true", Mark::True),
     (b"union", Mark::Reserved),
     (b"unknown", Mark::Unknown),
@@ -205,7 +216,25 @@ pub fn is_name(mark: Mark) -> bool
     ensures { result ≡ spec.is_name mark }
 {
     same(mark, Mark::Name)
+        || same(mark, Mark::Count)
         || same(mark, Mark::First)
         || same(mark, Mark::Last)
+        || same(mark, Mark::Max)
+        || same(mark, Mark::Min)
         || same(mark, Mark::Nulls)
+        || same(mark, Mark::Sum)
+}
+
+/// Whether a token is the word of an aggregate of values: SUM, MIN or MAX.
+pub fn is_reckoned(mark: Mark) -> bool
+    ensures { result ≡ spec.is_reckoned mark }
+{
+    same(mark, Mark::Sum) || same(mark, Mark::Min) || same(mark, Mark::Max)
+}
+
+/// Whether a token is the word of an aggregate.
+pub fn is_agg(mark: Mark) -> bool
+    ensures { result ≡ spec.is_agg mark }
+{
+    same(mark, Mark::Count) || is_reckoned(mark)
 }

@@ -39,6 +39,9 @@ q n=f --workers 2
 --route b,s47,a11,v0 q n=f
 --route= q n=f
 --route _ q n=f
+--cache 0 q n=f
+--cache 4096 q n=f
+--cache=00000000000000000007 q n=f
 --index n.c q n=f
 --index N.c q n=f
 --index n.c.d q n=f
@@ -55,7 +58,7 @@ q -- n=f
 --demo 1
 --demo 100000
 --demo=00000000000000000001
---demo 5 --workers 3 --policy pressure --seed 2 --route b --tally";
+--demo 5 --workers 3 --policy pressure --seed 2 --route b --cache 9 --tally";
 
 const OUT_OF_FORM: &str = "\
 _
@@ -91,6 +94,12 @@ q n=f --workers
 --route b,q q n=f
 --route b, q n=f
 --route s48 q n=f
+--cache 4097 q n=f
+--cache 000000000000000000007 q n=f
+--cache -1 q n=f
+--cache _ q n=f
+--cache 1 --cache 1 q n=f
+q n=f --cache
 --index z.x q n=f
 --index n q n=f
 --index n. q n=f
@@ -133,11 +142,12 @@ fn tells_words_in_form(rt: HostRuntime) -> Result<(), Fail> {
 #[test]
 fn reads_every_option(rt: HostRuntime) -> Result<(), Fail> {
     let line = "--lookup m.d,k.x --policy script q --seed 9 n=f --workers 4 M=g=h --route v0,b \
-                --tally k=l --index N.c.e";
+                --tally k=l --index N.c.e --cache 3";
     let Ok(command) = command_of(rt.alloc(), line)? else {
         return Err(Fail::new("not as given"));
     };
     assert!(rt; command.workers == 4 && command.seed == 9 && command.tally);
+    assert_eq!(rt; command.cache, 3);
     assert!(rt; command.policy == PolicyName::Script && command.route.as_str() == "v0,b");
     let Task::Query(query) = &command.task else {
         return Err(Fail::new("not as given"));
@@ -163,6 +173,7 @@ fn leaves_what_is_not_given(rt: HostRuntime) -> Result<(), Fail> {
         return Err(Fail::new("not as given"));
     };
     assert!(rt; command.workers == 1 && command.seed == 1 && !command.tally);
+    assert_eq!(rt; command.cache, 0);
     assert!(rt; command.policy == PolicyName::Lottery && command.route.as_str() == "");
     assert!(rt; matches!(&command.task, Task::Demo { rows: 1000 }));
     Ok(())

@@ -149,6 +149,7 @@ fn scripts_are_told(rt: HostRuntime) -> Result<(), Fail> {
     let all = [
         (Asked::Answer, faults::ANSWERS),
         (Asked::Answer, faults::PLACES),
+        (Asked::Answer, faults::SHAPES),
         (Asked::Answer, faults::LIMITS),
         (Asked::Tree, trees::SCRIPTS),
         (Asked::Condition, trees::CONDITIONS),
@@ -215,10 +216,50 @@ fn wrong_front(alloc: Global, cases: &'static str) -> Result<&'static str, Fail>
     Ok("")
 }
 
+// Where the word begins that a text of so many bytes ends in; its length, where it ends in no word.
+fn last_word(text: &[u8]) -> usize {
+    let mut start = text.len();
+    for (index, byte) in text.iter().enumerate() {
+        if !byte.is_ascii_alphanumeric() && *byte != b'_' {
+            start = text.len();
+        } else if start == text.len() {
+            start = index;
+        }
+    }
+    start
+}
+
+// Whether the front of so many bytes of a script spells a script, or is refused at its end or at its last word.
+fn is_front_told(alloc: Global, script: &str, length: usize) -> Result<bool, Fail> {
+    let Some(front) = script.as_bytes().get(..length) else {
+        return Ok(false);
+    };
+    if front.len() > 999 {
+        return Ok(false);
+    }
+    let found = answer(alloc, front)?;
+    let word = format!(in alloc; "Syntax {}", last_word(front))?;
+    let end = format!(in alloc; "Syntax {length}")?;
+    Ok(found.as_str() == "tree" || found.as_str() == end.as_str() || found.as_str() == word.as_str())
+}
+
+// The first of these scripts with a proper front that is told otherwise, or nothing.
+fn wrong_shaped(alloc: Global, scripts: &[&'static str]) -> Result<&'static str, Fail> {
+    for script in scripts {
+        for length in 0..script.len() {
+            if !is_front_told(alloc, script, length)? {
+                return Ok(script);
+            }
+        }
+    }
+    Ok("")
+}
+
 #[test]
 fn odd_texts_and_fronts_are_told(rt: HostRuntime) -> Result<(), Fail> {
     assert_eq!(rt; wrong_text(rt.alloc())?, "");
     assert_eq!(rt; wrong_front(rt.alloc(), faults::FRONTS)?, "");
+    assert_eq!(rt; wrong_shaped(rt.alloc(), &faults::SHAPED)?, "");
     let big = told(rt.alloc(), Asked::Tree, BIG_SPENDERS)?;
     assert_eq!(rt; big.as_str(), trees::BIG_TREE);
     Ok(())

@@ -153,6 +153,8 @@ const REFUSED: &str = "\
     emo ROWS/\n\
 ! --index z.x q n=n | SELECT x FROM n |  | 2 Usage |  | usage: eddyql [OPTIONS] SCRIPT NAME=FILE.. or eddyql [OPTI\
     ONS] --demo ROWS/\n\
+! --cache 4097 q n=n | SELECT x FROM n |  | 2 Usage |  | usage: eddyql [OPTIONS] SCRIPT NAME=FILE.. or eddyql [OPTI\
+    ONS] --demo ROWS/\n\
 ! --seed 18446744073709551616 q n=n | SELECT x FROM n |  | 2 Usage |  | usage: eddyql [OPTIONS] SCRIPT NAME=FILE.\
     . or eddyql [OPTIONS] --demo ROWS/\n\
 t | SELECT FROM t |  | 3 Script { fault: Syntax { at: 7 } } |  | script: syntax at byte 7/\n\

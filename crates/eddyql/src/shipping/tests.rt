@@ -27,10 +27,32 @@ SELECT x, y FROM ends WHERE divides(x, y)|0|x,y/-1,-9223372036854775808/
 SELECT x, y FROM ends WHERE same_sign(x, y)|0|x,y/9223372036854775807,9223372036854775797/-1,-9223372036854775808/
 ";
 
+// Options, and what is noted where the script is `COUNTED_SCRIPT`. The rows of `w` come one after another, each through
+// before the next.
+const COUNTED: &str = "\
+--tally|query 1: built 4 hops 3 looked 0/
+--tally --cache 0|query 1: built 4 hops 3 looked 0/
+--tally --cache 2|query 1: built 4 hops 3 looked 0 hits 2/
+--tally --cache 1|query 1: built 4 hops 3 looked 0 hits 1/
+--tally --cache 4096 --policy pressure|query 1: built 4 hops 3 looked 0 hits 2/
+--tally --cache 1 --policy pressure|query 1: built 4 hops 3 looked 0 hits 1/
+--cache 2 --workers 8|
+";
+
+const COUNTED_SCRIPT: &str = "SELECT x FROM w WHERE divides(x, 2)";
+
+// Joins with a cache: the options, the script, and what is written, whatever the policy and the number of workers.
+const JOINED: &str = "\
+--cache 3|SELECT a.x, b.x FROM n a, n b WHERE divides(a.x, b.x)|x,x/1,1/1,2/1,3/2,2/3,3/
+--cache 2 --index ord.cid|SELECT name FROM cust, ord WHERE id = cid AND divides(cid, 2)|name/Ada/Ada/Bob/
+--cache 2 --lookup ord.cid|SELECT name FROM cust, ord WHERE id = cid AND divides(cid, 2)|name/Ada/Ada/Bob/
+";
+
 fn folder_of(alloc: Global, script: &str) -> Result<MemoryFolder, Fail> {
     let mut folder = MemoryFolder::new(alloc);
     folder.keep("q", script.as_bytes())?;
     folder.keep("n", b"x\n1\n2\n3\n")?;
+    folder.keep("w", b"x\n1\n2\n1\n1\n")?;
     folder.keep("cust", b"id,name\n1,Ada\n2,Bob\n3,\n")?;
     folder.keep("ord", b"oid,cid,amt\n10,1,5\n11,1,7\n12,2,5\n13,,9\n")?;
     folder.keep(
@@ -41,26 +63,19 @@ fn folder_of(alloc: Global, script: &str) -> Result<MemoryFolder, Fail> {
     Ok(folder)
 }
 
-// Whether a script ends with this code, having written, or else noted, this text.
+// Whether a script ends with this code under these options, having written and noted these texts.
 fn ends_so<R: Threads + Wait + Sync>(
     rt: &R,
     alloc: Global,
-    workers: &str,
+    options: &str,
     script: &str,
     code: &str,
-    told: &str,
+    written: &str,
+    noted: &str,
 ) -> Result<bool, Fail> {
     let mut words = Vec::new(alloc);
-    for word in [
-        "eddyql",
-        "--workers",
-        workers,
-        "q",
-        "n=n",
-        "cust=cust",
-        "ord=ord",
-        "ends=ends",
-    ] {
+    let line = format!(in alloc; "eddyql {options} q n=n w=w cust=cust ord=ord ends=ends")?;
+    for word in line.as_str().split(' ') {
         words.push(String::from_str(alloc, word)?)?;
     }
     let mut folder = folder_of(alloc, script)?;
@@ -73,16 +88,12 @@ fn ends_so<R: Threads + Wait + Sync>(
     };
     let mut outputs = Outputs { out, notes };
     let ended = program_as_shipped(&host, &words, &mut folder, &mut outputs);
-    let told = told.replace(alloc, "/", "\n")?;
-    let (said, silent) = if code == "0" {
-        (&outputs.out, &outputs.notes)
-    } else {
-        (&outputs.notes, &outputs.out)
-    };
+    let written = written.replace(alloc, "/", "\n")?;
+    let noted = noted.replace(alloc, "/", "\n")?;
     Ok(
         ended == ExitCode::from(code.parse().unwrap_or(u8::MAX))
-            && said.written() == told.as_bytes()
-            && silent.written().is_empty(),
+            && outputs.out.written() == written.as_bytes()
+            && outputs.notes.written() == noted.as_bytes(),
     )
 }
 
@@ -93,9 +104,62 @@ fn calls_in_scripts(rt: HostRuntime) -> Result<(), Fail> {
         let script = fields.next().unwrap_or("");
         let code = fields.next().unwrap_or("");
         let told = fields.next().unwrap_or("");
-        for workers in ["1", "3"] {
-            if !ends_so(&rt, rt.alloc(), workers, script, code, told)? {
-                assert_eq!(rt; case, workers);
+        let (written, noted) = if code == "0" { (told, "") } else { ("", told) };
+        for options in ["--workers 1", "--workers 3"] {
+            if !ends_so(&rt, rt.alloc(), options, script, code, written, noted)? {
+                assert_eq!(rt; case, options);
+            }
+        }
+    }
+    Ok(())
+}
+
+#[test]
+fn counts_hits(rt: HostRuntime) -> Result<(), Fail> {
+    for case in COUNTED.lines() {
+        let (options, noted) = case.split_once('|').unwrap_or(("", ""));
+        let written = "x/1/2/1/1/";
+        if !ends_so(
+            &rt,
+            rt.alloc(),
+            options,
+            COUNTED_SCRIPT,
+            "0",
+            written,
+            noted,
+        )? {
+            assert_eq!(rt; case, "as worked out");
+        }
+    }
+    Ok(())
+}
+
+// Whether a join is written so under a policy, by any number of workers.
+fn is_joined<R: Threads + Wait + Sync>(
+    rt: &R,
+    alloc: Global,
+    case: &str,
+    policy: &str,
+) -> Result<bool, Fail> {
+    let mut fields = case.split('|');
+    let given = fields.next().unwrap_or("");
+    let script = fields.next().unwrap_or("");
+    let written = fields.next().unwrap_or("");
+    for workers in ["1", "2", "8"] {
+        let options = format!(in alloc; "{given} {policy} --workers {workers}")?;
+        if !ends_so(rt, alloc, options.as_str(), script, "0", written, "")? {
+            return Ok(false);
+        }
+    }
+    Ok(true)
+}
+
+#[test]
+fn joins_with_a_cache(rt: HostRuntime) -> Result<(), Fail> {
+    for case in JOINED.lines() {
+        for policy in ["--seed 1", "--policy pressure"] {
+            if !is_joined(&rt, rt.alloc(), case, policy)? {
+                assert_eq!(rt; case, policy);
             }
         }
     }

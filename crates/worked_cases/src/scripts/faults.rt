@@ -23,7 +23,7 @@ SELECT x FROM n WHERE 2147483647 * x = 9223372036854775807 | tree\n\
 SELECT | Syntax 6\n\
 SELECT FROM t | Syntax 7\n\
 SELECT x, FROM n | Syntax 10\n\
-SELECT DISTINCT x FROM n | Syntax 7\n\
+SELECT DISTINCT x FROM n | tree\n\
 SELECT x FROM n;; | Syntax 16\n\
 SELECT x FROM n WHERE NOT x = 1 = 1 | Syntax 32\n\
 SELECT x FROM n WHERE x IN ( | Syntax 28\n\
@@ -40,8 +40,66 @@ SELECT x FROM n WHERE 2147483648 * x = 1 | NumberTooLarge 22\n\
 SELECT x FROM n WHERE x * 2147483648 = 1 | NumberTooLarge 26\n\
 SELECT x FROM n WHERE f(3000000000 * | NumberTooLarge 24\n\
 SELECT x FROM n WHERE f(3000000000) | tree\n\
-SELECT x FROM n GROUP BY x | Syntax 16\n\
+SELECT x FROM n GROUP BY x | tree\n\
 ";
+
+/// Set functions, GROUP BY, DISTINCT and LIMIT; and their words as names.
+pub const SHAPES: &str = "\
+SELECT COUNT(*) FROM n | tree\n\
+SELECT count ( * ), Sum(x) AS s, MIN(n.x) m, max(\"x\") FROM n | tree\n\
+SELECT DISTINCT x, y FROM n WHERE x = 1 GROUP BY x, n.y ORDER BY x LIMIT 5 | tree\n\
+SELECT DISTINCT * FROM n LIMIT 0; | tree\n\
+SELECT x FROM n ORDER BY x LIMIT 9223372036854775807 | tree\n\
+SELECT count, sum AS min, max FROM n | tree\n\
+SELECT count.sum, min.* FROM count, min max WHERE sum(max, 1) | tree\n\
+SELECT x count FROM n sum GROUP BY min, max.sum ORDER BY count, max DESC | tree\n\
+SELECT MAX x FROM n | tree\n\
+SELECT COUNT(COUNT), MIN(min.max) FROM min | tree\n\
+SELECT SUM(*) FROM n | Syntax 11\n\
+SELECT \"count\"(x) FROM n | Syntax 14\n\
+SELECT \"SUM\"(x) FROM n | Syntax 12\n\
+SELECT COUNT() FROM n | Syntax 13\n\
+SELECT COUNT(x, y) FROM n | Syntax 14\n\
+SELECT COUNT(1) FROM n | Syntax 13\n\
+SELECT COUNT(DISTINCT x) FROM n | Syntax 13\n\
+SELECT COUNT(n.*) FROM n | Syntax 15\n\
+SELECT MAX(x FROM n | Syntax 13\n\
+SELECT n.SUM(x) FROM n | Syntax 12\n\
+SELECT AVG(x) FROM n | Syntax 10\n\
+SELECT x, COUNT (y) z w FROM n | Syntax 22\n\
+SELECT DISTINCT ALL x FROM n | Syntax 16\n\
+SELECT ALL DISTINCT x FROM n | Syntax 11\n\
+SELECT x DISTINCT FROM n | Syntax 9\n\
+SELECT DISTINCT FROM n | Syntax 16\n\
+SELECT x FROM n GROUP x | Syntax 22\n\
+SELECT x FROM n GROUP BY | Syntax 24\n\
+SELECT x FROM n GROUP BY x, LIMIT 1 | Syntax 28\n\
+SELECT x FROM n GROUP BY COUNT(x) | Syntax 30\n\
+SELECT x FROM n GROUP BY x AS y | Syntax 27\n\
+SELECT x FROM n GROUP BY x WHERE x = 1 | Syntax 27\n\
+SELECT x FROM n ORDER BY x GROUP BY x | Syntax 27\n\
+SELECT x FROM n GROUP BY x HAVING x = 1 | Syntax 27\n\
+SELECT x FROM n ORDER BY COUNT(x) | Syntax 30\n\
+SELECT x FROM n LIMIT | Syntax 21\n\
+SELECT x FROM n LIMIT x | Syntax 22\n\
+SELECT x FROM n LIMIT -1 | Syntax 22\n\
+SELECT x FROM n LIMIT 1 ORDER BY x | Syntax 24\n\
+SELECT x FROM n LIMIT 1 LIMIT 2 | Syntax 24\n\
+SELECT x FROM n LIMIT 1, 2 | Syntax 23\n\
+SELECT x FROM n LIMIT 5 * x | Syntax 24\n\
+SELECT x FROM n LIMIT 9223372036854775808 | NumberTooLarge 22\n\
+SELECT x FROM n LIMIT 2147483648 * | NumberTooLarge 22\n\
+SELECT x FROM n WHERE COUNT(x) = 1 | Syntax 31\n\
+SELECT x FROM n WHERE COUNT(*) = 1 | Syntax 28\n\
+COUNT(*) FROM n | Syntax 0\n\
+";
+
+/// Scripts each front of which spells a script, or is refused at its end, or at the word in which it ends.
+pub const SHAPED: [&str; 3] = [
+    "SELECT DISTINCT n.*, x AS count FROM n JOIN m ON n.x = m.x ORDER BY count DESC NULLS LAST LIMIT 10;",
+    "select count(*) k, SUM(t.x), min ( y ) AS sum from t group by t.z, y order by k limit 3",
+    "SELECT max, COUNT(max) FROM sum WHERE min IN (1, 2) GROUP BY max; SELECT MAX(x) FROM n LIMIT 0",
+];
 
 /// Each keyword and sign missing, doubled or out of place.
 pub const PLACES: &str = "\
@@ -80,7 +138,7 @@ SELECT x FROM n ORDER BY x DESC DESC | Syntax 32\n\
 SELECT x FROM n ORDER BY x NULLS NULLS LAST | Syntax 33\n\
 SELECT x WHERE x = 1 FROM n | Syntax 9\n\
 SELECT x FROM n ORDER BY x WHERE x = 1 | Syntax 27\n\
-SELECT x FROM n LIMIT 1 | Syntax 16\n\
+SELECT x FROM n LIMIT 1 | tree\n\
 SELECT x FROM n LEFT JOIN m ON x = 1 | Syntax 16\n\
 SELECT x FROM n UNION SELECT x FROM n | Syntax 16\n\
 SELECT x FROM n HAVING x = 1 | Syntax 16\n\

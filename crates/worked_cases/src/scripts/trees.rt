@@ -2,27 +2,28 @@
 
 pub const SCRIPTS: &str = "\
 SELECT x FROM n | \
-    Script { statements: Items { items: [Statement { items: List(Items { items: [\
+    Script { statements: Items { items: [Statement { distinct: false, items: List(Items { items: [\
     Col(ColRef { alias: None, column: Name { text: SqText { text: \"x\" }, at: 7 } }, None)] }), \
     sources: Items { items: [Source { table: Name { text: SqText { text: \"n\" }, at: 14 }, \
     alias: Name { text: SqText { text: \"n\" }, at: 14 }, on: None }] }, \
-    condition: None, order: Items { items: [] } }] } }\n\
+    condition: None, groups: Items { items: [] }, order: Items { items: [] }, limit: None }] } }\n\
 SELECT * FROM n | \
-    Script { statements: Items { items: [Statement { items: Star, sources: Items { \
+    Script { statements: Items { items: [Statement { distinct: false, items: Star, sources: Items { \
     items: [Source { table: Name { text: SqText { text: \"n\" }, at: 14 }, alias: Name { \
-    text: SqText { text: \"n\" }, at: 14 }, on: None }] }, condition: None, order: Items \
-    { items: [] } }] } }\n\
+    text: SqText { text: \"n\" }, at: 14 }, on: None }] }, condition: None, groups: Items { items: [] }, order: Items \
+    { items: [] }, limit: None }] } }\n\
 SELECT ALL t.*, t.x y, \"a\"\"b\" AS z FROM t | \
-    Script { statements: Items { items: [Statement { items: List(Items { items: \
+    Script { statements: Items { items: [Statement { distinct: false, items: List(Items { items: \
     [AllOf(Name { text: SqText { text: \"t\" }, at: 11 }), Col(ColRef { alias: Some(Name \
     { text: SqText { text: \"t\" }, at: 16 }), column: Name { text: SqText { text: \"x\" }, \
     at: 18 } }, Some(Name { text: SqText { text: \"y\" }, at: 20 })), Col(ColRef { alias: \
     None, column: Name { text: SqText { text: \"a\\\"b\" }, at: 23 } }, Some(Name { text: \
     SqText { text: \"z\" }, at: 33 }))] }), sources: Items { items: [Source { table: Name \
     { text: SqText { text: \"t\" }, at: 40 }, alias: Name { text: SqText { text: \"t\" }, \
-    at: 40 }, on: None }] }, condition: None, order: Items { items: [] } }] } }\n\
+    at: 40 }, on: None }] }, condition: None, \
+    groups: Items { items: [] }, order: Items { items: [] }, limit: None }] } }\n\
 SELECT x FROM n a, m AS b CROSS JOIN k INNER JOIN j ON x = 1 | \
-    Script { statements: Items { items: [Statement { items: List(Items { items: \
+    Script { statements: Items { items: [Statement { distinct: false, items: List(Items { items: \
     [Col(ColRef { alias: None, column: Name { text: SqText { text: \"x\" }, at: 7 } }, \
     None)] }), sources: Items { items: [Source { table: Name { text: SqText { text: \"n\" \
     }, at: 14 }, alias: Name { text: SqText { text: \"a\" }, at: 16 }, on: None }, Source \
@@ -34,14 +35,14 @@ SELECT x FROM n a, m AS b CROSS JOIN k INNER JOIN j ON x = 1 | \
     { items: [RawTerm { at: 55, negative: false, number: None, column: Some(ColRef { \
     alias: None, column: Name { text: SqText { text: \"x\" }, at: 55 } }) }] } }, cmp: \
     Eq, right: Sum { at: 59, terms: Items { items: [RawTerm { at: 59, negative: false, \
-    number: Some(1), column: None }] } } }) }] }, condition: None, order: Items { \
-    items: [] } }] } }\n\
+    number: Some(1), column: None }] } } }) }] }, condition: None, groups: Items { items: [] }, order: Items { \
+    items: [] }, limit: None }] } }\n\
 SELECT nulls FROM n ORDER BY nulls NULLS FIRST, x ASC NULLS LAST, t.y DESC, nulls DESC NULLS LAST, z | \
-    Script { statements: Items { items: [Statement { items: List(Items { items: \
+    Script { statements: Items { items: [Statement { distinct: false, items: List(Items { items: \
     [Col(ColRef { alias: None, column: Name { text: SqText { text: \"nulls\" }, at: 7 } \
     }, None)] }), sources: Items { items: [Source { table: Name { text: SqText { text: \
     \"n\" }, at: 18 }, alias: Name { text: SqText { text: \"n\" }, at: 18 }, on: None }] }, \
-    condition: None, order: Items { items: [OrderItem { column: ColRef { alias: None, \
+    condition: None, groups: Items { items: [] }, order: Items { items: [OrderItem { column: ColRef { alias: None, \
     column: Name { text: SqText { text: \"nulls\" }, at: 29 } }, way: SortWay { \
     descending: false, nulls_first: true } }, OrderItem { column: ColRef { alias: None, \
     column: Name { text: SqText { text: \"x\" }, at: 48 } }, way: SortWay { descending: \
@@ -51,17 +52,31 @@ SELECT nulls FROM n ORDER BY nulls NULLS FIRST, x ASC NULLS LAST, t.y DESC, null
     column: ColRef { alias: None, column: Name { text: SqText { text: \"nulls\" }, at: 76 \
     } }, way: SortWay { descending: true, nulls_first: false } }, OrderItem { column: \
     ColRef { alias: None, column: Name { text: SqText { text: \"z\" }, at: 99 } }, way: \
-    SortWay { descending: false, nulls_first: false } }] } }] } }\n\
+    SortWay { descending: false, nulls_first: false } }] }, limit: None }] } }\n\
 SELECT x FROM n; SELECT y FROM m; | \
-    Script { statements: Items { items: [Statement { items: List(Items { items: \
+    Script { statements: Items { items: [Statement { distinct: false, items: List(Items { items: \
     [Col(ColRef { alias: None, column: Name { text: SqText { text: \"x\" }, at: 7 } }, \
     None)] }), sources: Items { items: [Source { table: Name { text: SqText { text: \"n\" \
     }, at: 14 }, alias: Name { text: SqText { text: \"n\" }, at: 14 }, on: None }] }, \
-    condition: None, order: Items { items: [] } }, Statement { items: List(Items { \
+    condition: None, \
+    groups: Items { items: [] }, order: Items { items: [] }, limit: None }, \
+    Statement { distinct: false, items: List(Items { \
     items: [Col(ColRef { alias: None, column: Name { text: SqText { text: \"y\" }, at: 24 \
     } }, None)] }), sources: Items { items: [Source { table: Name { text: SqText { \
     text: \"m\" }, at: 31 }, alias: Name { text: SqText { text: \"m\" }, at: 31 }, on: None \
-    }] }, condition: None, order: Items { items: [] } }] } }\n\
+    }] }, condition: None, groups: Items { items: [] }, order: Items { items: [] }, limit: None }] } }\n\
+SELECT DISTINCT COUNT(*), sum(n.x) AS s FROM n GROUP BY n.x, y LIMIT 5 | \
+    Script { statements: Items { items: [Statement { distinct: true, items: List(Items { items: [\
+    Agg { at: 16, kind: CountAll, column: None, name: None }, \
+    Agg { at: 26, kind: Sum, column: Some(ColRef { alias: Some(Name { text: SqText { text: \"n\" }, at: 30 }), \
+    column: Name { text: SqText { text: \"x\" }, at: 32 } }), \
+    name: Some(Name { text: SqText { text: \"s\" }, at: 38 }) }] }), \
+    sources: Items { items: [Source { table: Name { text: SqText { text: \"n\" }, at: 45 }, \
+    alias: Name { text: SqText { text: \"n\" }, at: 45 }, on: None }] }, condition: None, \
+    groups: Items { items: [ColRef { alias: Some(Name { text: SqText { text: \"n\" }, at: 56 }), \
+    column: Name { text: SqText { text: \"x\" }, at: 58 } }, \
+    ColRef { alias: None, column: Name { text: SqText { text: \"y\" }, at: 61 } }] }, \
+    order: Items { items: [] }, limit: Some(5) }] } }\n\
 ";
 
 /// Conditions behind `SELECT x FROM n WHERE `.
@@ -211,7 +226,7 @@ x > 1 OR y > 2 OR z > 3 | \
 ";
 
 pub const BIG_TREE: &str = "\
-Script { statements: Items { items: [Statement { items: List(Items { items: [\
+Script { statements: Items { items: [Statement { distinct: false, items: List(Items { items: [\
 Col(ColRef { alias: Some(Name { text: SqText { text: \"p\" }, at: 23 }), \
 column: Name { text: SqText { text: \"name\" }, at: 25 } }, \
 Some(Name { text: SqText { text: \"who\" }, at: 33 })), \
@@ -243,20 +258,20 @@ IsNull { at: 130, negated: true, subject: Sum { at: 130, terms: Items { items: [
 RawTerm { at: 130, negative: false, number: None, column: Some(ColRef { alias: \
 Some(Name { text: SqText { text: \"p\" }, at: 130 }), \
 column: Name { text: SqText { text: \"city\" }, at: 132 } }) }] } } }] })), \
-order: Items { items: [\
+groups: Items { items: [] }, order: Items { items: [\
 OrderItem { column: ColRef { alias: \
 Some(Name { text: SqText { text: \"o\" }, at: 158 }), \
 column: Name { text: SqText { text: \"total\" }, at: 160 } }, \
 way: SortWay { descending: true, nulls_first: true } }, \
 OrderItem { column: ColRef { alias: None, \
 column: Name { text: SqText { text: \"who\" }, at: 172 } }, \
-way: SortWay { descending: false, nulls_first: false } }] } }] } }";
+way: SortWay { descending: false, nulls_first: false } }] }, limit: None }] } }";
 
 /// What stands around the tree of such a condition.
 pub const AROUND: (&str, &str) = (
-    "Script { statements: Items { items: [Statement { items: List(Items { items: [\
+    "Script { statements: Items { items: [Statement { distinct: false, items: List(Items { items: [\
     Col(ColRef { alias: None, column: Name { text: SqText { text: \"x\" }, at: 7 } }, None)] }), \
     sources: Items { items: [Source { table: Name { text: SqText { text: \"n\" }, at: 14 }, \
     alias: Name { text: SqText { text: \"n\" }, at: 14 }, on: None }] }, condition: Some(",
-    "), order: Items { items: [] } }] } }",
+    "), groups: Items { items: [] }, order: Items { items: [] }, limit: None }] } }",
 );

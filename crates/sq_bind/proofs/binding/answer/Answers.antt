@@ -6,11 +6,11 @@ use Rattle.sq_parse.specs.declared.tree.Source.{Source}
 use Rattle.catalogue.specs.Named.{place_of_table}
 use Rattle.sq_bind.specs.Condition.{calling}
 use Rattle.sq_bind.specs.Fault.{first_of}
-use Rattle.sq_bind.specs.Found.{block_with}
+use Rattle.sq_bind.specs.Found.{matches_with}
 use Rattle.sq_bind.specs.Given.{over}
 use Rattle.sq_bind.specs.Seen.{seen}
 use Rattle.sq_bind.specs.Visible.{Alias}
-use Rattle.sq_bind.specs.Statement.{from_faults, aliases_from, aliases_in, output_of, placed_in, faults_among}
+use Rattle.sq_bind.specs.Statement.{from_faults, aliases_from, aliases_in, placed_in, shape_in, faults_among}
 use Rattle.sq_bind.specs.declared.visible.SeenAlias.{SeenAlias}
 use Rattle.sq_bind.specs.declared.fault.BindFault.TheVariants.{Memory}
 use Rattle.sq_bind.proofs.AnswerLemmas as by
@@ -61,8 +61,8 @@ aliases_of-requires-clause-there g c =
     subst (λ (found : List (Option ℕ)). P (length c.tables.result.now) found) (sym c.as_slice-2.ensures.value)
     (subst (λ (n : ℕ). P n c.in_ok-found.found.items) (ap length (sym c.tables.ensures)) there)
 
-pub block_or_fault-requires : goal.block_or_fault-requires
-block_or_fault-requires g c =
+pub shaped_or_fault-requires : goal.shaped_or_fault-requires
+shaped_or_fault-requires g c =
     let calls = calling (g.F.Predicates.number_of c.args.functions.now) (g.F.Predicates.kinds_of c.args.functions.now) in
     let scope = over c.args.catalogue.now c.args.accesses.now calls in
     let s = c.args.statement.now in
@@ -78,8 +78,8 @@ block_or_fault-requires g c =
     let long = sym (length-map c.as_slice-4.result.now seen) ∙ ap length seen' ∙ length-aliases scope 0 s.sources in
     omega (arith, long)
 
-pub returns-in_err-block-clause-answer : goal.returns-in_err-block-clause-answer
-returns-in_err-block-clause-answer g c =
+pub returns-in_err-shaped-clause-answer : goal.returns-in_err-shaped-clause-answer
+returns-in_err-shaped-clause-answer g c =
     let calls = calling (g.F.Predicates.number_of c.args.functions.now) (g.F.Predicates.kinds_of c.args.functions.now) in
     let scope = over c.args.catalogue.now c.args.accesses.now calls in
     let s = c.args.statement.now in
@@ -93,12 +93,12 @@ returns-in_err-block-clause-answer g c =
     c.in_ok-aliases.ensures.aliases scope (sym c.tables.ensures) (c.as_slice-2.ensures.value ∙ c.in_ok-found.ensures.found)
     ∙ ap (aliases_from scope 0) sources in
     let seen' : map seen c.as_slice-4.result.now ≡ aliases_in scope s = ap (λ (xs : List SeenAlias). map seen xs) c.as_slice-4.ensures.value ∙ kept in
-    let f = c.in_err-block.field-0.0 in
-    let what = subst (λ (these : List Alias). (f ≡ Memory) ⊎ (first_of (faults_among calls these s) ≡ Some f)) seen' c.in_err-block.ensures.fault in
-    by.handed_on scope s c.from_residual-in_err-block.result f c.from_residual-in_err-block.ensures.1 (by.rest_answer scope s from f what)
+    let f = c.in_err-shaped.field-0.0 in
+    let what = subst (λ (these : List Alias). (f ≡ Memory) ⊎ (first_of (faults_among calls these s) ≡ Some f)) seen' c.in_err-shaped.ensures.fault in
+    by.handed_on scope s c.from_residual-in_err-shaped.result f c.from_residual-in_err-shaped.ensures.1 (by.rest_answer scope s from f what)
 
-pub reached_block-requires : goal.reached_block-requires
-reached_block-requires g c =
+pub reached_shape-requires : goal.reached_shape-requires
+reached_shape-requires g c =
     let calls = calling (g.F.Predicates.number_of c.args.functions.now) (g.F.Predicates.kinds_of c.args.functions.now) in
     let scope = over c.args.catalogue.now c.args.accesses.now calls in
     let s = c.args.statement.now in
@@ -113,12 +113,15 @@ reached_block-requires g c =
     ∙ ap (aliases_from scope 0) sources in
     let seen' : map seen c.as_slice-4.result.now ≡ aliases_in scope s = ap (λ (xs : List SeenAlias). map seen xs) c.as_slice-4.ensures.value ∙ kept in
     let found = c.as_slice-3.ensures.value ∙ items in
-    let whole = λ (these : List Alias). block_with c.args.accesses.now c.as_slice-3.result.now these s.order (output_of these s.items) (placed_in calls these s) in
-    let block : c.in_ok-block.block ≡ whole (map seen c.as_slice-4.result.now) = c.in_ok-block.ensures.block in
-    let is = block ∙ ap whole seen' ∙ by.block_is scope s c.as_slice-3.result.now found in
-    let rest : first_of (faults_among calls (map seen c.as_slice-4.result.now) s) ≡ None = c.in_ok-block.ensures.faultless in
+    let whole = λ (these : List Alias). matches_with c.args.accesses.now c.as_slice-3.result.now these (placed_in calls these s) in
+    let block : c.in_ok-shaped.shaped.block ≡ whole (map seen c.as_slice-4.result.now) = c.in_ok-shaped.ensures.block in
+    let is = block ∙ ap whole seen' ∙ by.matches_are scope s c.as_slice-3.result.now found in
+    let shape : c.in_ok-shaped.shaped.shape ≡ shape_in (aliases_in scope s) s =
+    c.in_ok-shaped.ensures.shape ∙ ap (λ (these : List Alias). shape_in these s) seen' in
+    let made = by.made_is scope s c.in_ok-shaped.shaped is shape in
+    let rest : first_of (faults_among calls (map seen c.as_slice-4.result.now) s) ≡ None = c.in_ok-shaped.ensures.faultless in
     let faultless = ap (λ (these : List Alias). first_of (faults_among calls these s)) (sym seen') ∙ rest in
-    by.few_uses scope s from c.in_ok-block.block is
+    by.few_uses scope s from c.in_ok-shaped.shaped is
 
 pub returns-clause-answer : goal.returns-clause-answer
 returns-clause-answer g c =
@@ -136,13 +139,46 @@ returns-clause-answer g c =
     ∙ ap (aliases_from scope 0) sources in
     let seen' : map seen c.as_slice-4.result.now ≡ aliases_in scope s = ap (λ (xs : List SeenAlias). map seen xs) c.as_slice-4.ensures.value ∙ kept in
     let found = c.as_slice-3.ensures.value ∙ items in
-    let whole = λ (these : List Alias). block_with c.args.accesses.now c.as_slice-3.result.now these s.order (output_of these s.items) (placed_in calls these s) in
-    let block : c.in_ok-block.block ≡ whole (map seen c.as_slice-4.result.now) = c.in_ok-block.ensures.block in
-    let is = block ∙ ap whole seen' ∙ by.block_is scope s c.as_slice-3.result.now found in
-    let rest : first_of (faults_among calls (map seen c.as_slice-4.result.now) s) ≡ None = c.in_ok-block.ensures.faultless in
+    let whole = λ (these : List Alias). matches_with c.args.accesses.now c.as_slice-3.result.now these (placed_in calls these s) in
+    let block : c.in_ok-shaped.shaped.block ≡ whole (map seen c.as_slice-4.result.now) = c.in_ok-shaped.ensures.block in
+    let is = block ∙ ap whole seen' ∙ by.matches_are scope s c.as_slice-3.result.now found in
+    let shape : c.in_ok-shaped.shaped.shape ≡ shape_in (aliases_in scope s) s =
+    c.in_ok-shaped.ensures.shape ∙ ap (λ (these : List Alias). shape_in these s) seen' in
+    let made = by.made_is scope s c.in_ok-shaped.shaped is shape in
+    let rest : first_of (faults_among calls (map seen c.as_slice-4.result.now) s) ≡ None = c.in_ok-shaped.ensures.faultless in
     let faultless = ap (λ (these : List Alias). first_of (faults_among calls these s)) (sym seen') ∙ rest in
-    by.reach_answer scope s from faultless (parsed_sound s c.requires.parsed).some_source c.in_ok-block.block is c.reached_block.result
-    c.reached_block.ensures.same c.reached_block.ensures.reached c.reached_block.ensures.fault
+    by.reach_answer scope s from faultless (parsed_sound s c.requires.parsed).some_source c.in_ok-shaped.shaped made c.reached_shape.result
+    c.reached_shape.ensures.same c.reached_shape.ensures.reached c.reached_shape.ensures.fault
+
+pub returns-clause-plain_fits : goal.returns-clause-plain_fits
+returns-clause-plain_fits g c =
+    let calls = calling (g.F.Predicates.number_of c.args.functions.now) (g.F.Predicates.kinds_of c.args.functions.now) in
+    let scope = over c.args.catalogue.now c.args.accesses.now calls in
+    let s = c.args.statement.now in
+    let sources = c.as_slice-sources.ensures in
+    let tables = λ (ss : List Source). map (λ (x : Source). place_of_table c.args.catalogue.now x.table.text) ss in
+    let items : c.in_ok-found.found.items ≡ tables s.sources = c.in_ok-found.ensures.found ∙ ap tables sources in
+    let first = c.in_ok-fault.ensures scope (c.as_slice.ensures.value ∙ c.in_ok-found.ensures.found) in
+    let told = ap (λ (ss : List Source). first_of (from_faults scope ss)) (sym sources) ∙ sym first in
+    let from = by.none_first (from_faults scope s.sources) (told ∙ c.in_default.is) in
+    let kept : map seen c.in_ok-aliases.aliases.items ≡ aliases_in scope s =
+    c.in_ok-aliases.ensures.aliases scope (sym c.tables.ensures) (c.as_slice-2.ensures.value ∙ c.in_ok-found.ensures.found)
+    ∙ ap (aliases_from scope 0) sources in
+    let seen' : map seen c.as_slice-4.result.now ≡ aliases_in scope s = ap (λ (xs : List SeenAlias). map seen xs) c.as_slice-4.ensures.value ∙ kept in
+    let found = c.as_slice-3.ensures.value ∙ items in
+    let whole = λ (these : List Alias). matches_with c.args.accesses.now c.as_slice-3.result.now these (placed_in calls these s) in
+    let block : c.in_ok-shaped.shaped.block ≡ whole (map seen c.as_slice-4.result.now) = c.in_ok-shaped.ensures.block in
+    let is = block ∙ ap whole seen' ∙ by.matches_are scope s c.as_slice-3.result.now found in
+    let shape : c.in_ok-shaped.shaped.shape ≡ shape_in (aliases_in scope s) s =
+    c.in_ok-shaped.ensures.shape ∙ ap (λ (these : List Alias). shape_in these s) seen' in
+    let made = by.made_is scope s c.in_ok-shaped.shaped is shape in
+    let rest : first_of (faults_among calls (map seen c.as_slice-4.result.now) s) ≡ None = c.in_ok-shaped.ensures.faultless in
+    let faultless = ap (λ (these : List Alias). first_of (faults_among calls these s)) (sym seen') ∙ rest in
+    let some = subst (All (λ (a : Alias). 0 < length a.columns)) kept
+    (All-map (λ (a : Alias). 0 < length a.columns) seen c.in_ok-aliases.aliases.items c.in_ok-aliases.ensures.some) in
+    let fits = by.fit_made scope s (parsed_sound s c.requires.parsed) c.requires.reached c.in_ok-found.found.items items c.in_ok-found.ensures.within some from faultless
+    c.in_ok-shaped.shaped made in
+    by.fit_plain scope s c.in_ok-shaped.shaped fits c.reached_shape.result c.reached_shape.ensures.same
 
 pub returns-clause-fits : goal.returns-clause-fits
 returns-clause-fits g c =
@@ -160,12 +196,46 @@ returns-clause-fits g c =
     ∙ ap (aliases_from scope 0) sources in
     let seen' : map seen c.as_slice-4.result.now ≡ aliases_in scope s = ap (λ (xs : List SeenAlias). map seen xs) c.as_slice-4.ensures.value ∙ kept in
     let found = c.as_slice-3.ensures.value ∙ items in
-    let whole = λ (these : List Alias). block_with c.args.accesses.now c.as_slice-3.result.now these s.order (output_of these s.items) (placed_in calls these s) in
-    let block : c.in_ok-block.block ≡ whole (map seen c.as_slice-4.result.now) = c.in_ok-block.ensures.block in
-    let is = block ∙ ap whole seen' ∙ by.block_is scope s c.as_slice-3.result.now found in
-    let rest : first_of (faults_among calls (map seen c.as_slice-4.result.now) s) ≡ None = c.in_ok-block.ensures.faultless in
+    let whole = λ (these : List Alias). matches_with c.args.accesses.now c.as_slice-3.result.now these (placed_in calls these s) in
+    let block : c.in_ok-shaped.shaped.block ≡ whole (map seen c.as_slice-4.result.now) = c.in_ok-shaped.ensures.block in
+    let is = block ∙ ap whole seen' ∙ by.matches_are scope s c.as_slice-3.result.now found in
+    let shape : c.in_ok-shaped.shaped.shape ≡ shape_in (aliases_in scope s) s =
+    c.in_ok-shaped.ensures.shape ∙ ap (λ (these : List Alias). shape_in these s) seen' in
+    let made = by.made_is scope s c.in_ok-shaped.shaped is shape in
+    let rest : first_of (faults_among calls (map seen c.as_slice-4.result.now) s) ≡ None = c.in_ok-shaped.ensures.faultless in
     let faultless = ap (λ (these : List Alias). first_of (faults_among calls these s)) (sym seen') ∙ rest in
     let some = subst (All (λ (a : Alias). 0 < length a.columns)) kept
     (All-map (λ (a : Alias). 0 < length a.columns) seen c.in_ok-aliases.aliases.items c.in_ok-aliases.ensures.some) in
-    by.fit_answer scope s (parsed_sound s c.requires.parsed) c.requires.reached c.in_ok-found.found.items items c.in_ok-found.ensures.within some from faultless
-    c.in_ok-block.block is c.reached_block.result c.reached_block.ensures.same
+    let fits = by.fit_made scope s (parsed_sound s c.requires.parsed) c.requires.reached c.in_ok-found.found.items items c.in_ok-found.ensures.within some from faultless
+    c.in_ok-shaped.shaped made in
+    by.fit_block scope s c.in_ok-shaped.shaped fits c.reached_shape.result c.reached_shape.ensures.same
+
+pub returns-clause-shape_fits : goal.returns-clause-shape_fits
+returns-clause-shape_fits g c =
+    let calls = calling (g.F.Predicates.number_of c.args.functions.now) (g.F.Predicates.kinds_of c.args.functions.now) in
+    let scope = over c.args.catalogue.now c.args.accesses.now calls in
+    let s = c.args.statement.now in
+    let sources = c.as_slice-sources.ensures in
+    let tables = λ (ss : List Source). map (λ (x : Source). place_of_table c.args.catalogue.now x.table.text) ss in
+    let items : c.in_ok-found.found.items ≡ tables s.sources = c.in_ok-found.ensures.found ∙ ap tables sources in
+    let first = c.in_ok-fault.ensures scope (c.as_slice.ensures.value ∙ c.in_ok-found.ensures.found) in
+    let told = ap (λ (ss : List Source). first_of (from_faults scope ss)) (sym sources) ∙ sym first in
+    let from = by.none_first (from_faults scope s.sources) (told ∙ c.in_default.is) in
+    let kept : map seen c.in_ok-aliases.aliases.items ≡ aliases_in scope s =
+    c.in_ok-aliases.ensures.aliases scope (sym c.tables.ensures) (c.as_slice-2.ensures.value ∙ c.in_ok-found.ensures.found)
+    ∙ ap (aliases_from scope 0) sources in
+    let seen' : map seen c.as_slice-4.result.now ≡ aliases_in scope s = ap (λ (xs : List SeenAlias). map seen xs) c.as_slice-4.ensures.value ∙ kept in
+    let found = c.as_slice-3.ensures.value ∙ items in
+    let whole = λ (these : List Alias). matches_with c.args.accesses.now c.as_slice-3.result.now these (placed_in calls these s) in
+    let block : c.in_ok-shaped.shaped.block ≡ whole (map seen c.as_slice-4.result.now) = c.in_ok-shaped.ensures.block in
+    let is = block ∙ ap whole seen' ∙ by.matches_are scope s c.as_slice-3.result.now found in
+    let shape : c.in_ok-shaped.shaped.shape ≡ shape_in (aliases_in scope s) s =
+    c.in_ok-shaped.ensures.shape ∙ ap (λ (these : List Alias). shape_in these s) seen' in
+    let made = by.made_is scope s c.in_ok-shaped.shaped is shape in
+    let rest : first_of (faults_among calls (map seen c.as_slice-4.result.now) s) ≡ None = c.in_ok-shaped.ensures.faultless in
+    let faultless = ap (λ (these : List Alias). first_of (faults_among calls these s)) (sym seen') ∙ rest in
+    let some = subst (All (λ (a : Alias). 0 < length a.columns)) kept
+    (All-map (λ (a : Alias). 0 < length a.columns) seen c.in_ok-aliases.aliases.items c.in_ok-aliases.ensures.some) in
+    let fits = by.fit_made scope s (parsed_sound s c.requires.parsed) c.requires.reached c.in_ok-found.found.items items c.in_ok-found.ensures.within some from faultless
+    c.in_ok-shaped.shaped made in
+    by.fit_shape scope s c.in_ok-shaped.shaped fits c.reached_shape.result c.reached_shape.ensures.same

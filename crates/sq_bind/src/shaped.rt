@@ -1,0 +1,10 @@
+//! What a shaped statement binds to.
+
+use sq_expr::{Block, Shape};
+
+/// A shaped statement: the block of its matches, and what is made of them.
+#[derive(Debug, Drop)]
+pub struct Shaped {
+    pub block: Block,
+    pub shape: Shape,
+}

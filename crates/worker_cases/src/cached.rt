@@ -1,0 +1,113 @@
+//! Runs of workers with a cache of predicates' answers each: how often kept ones were given, and how often the
+//! predicates were called.
+
+ghost use Rattle.std.specs.Prelude.{◌<◌, ◌≤◌};
+ghost use Rattle.sq_expr.specs.Fits.{IsFit};
+ghost use Rattle.sq_expr.specs.Reach.{IsReachable};
+
+use crate::runs::policies_of;
+use case_kit::{Counted, block_of_case, catalogue_of_lines};
+use catalogue::Catalogue;
+use eddy_worker::{NoGate, run_many_cached};
+use sq_expr::Block;
+use sq_value::{Predicates, Tables};
+use std::alloc::Global;
+use std::sync::Wait;
+use std::test::Fail;
+use std::thread::Threads;
+
+/// The cases. First what is wanted: how many combinations are found, the hits and the calls of the predicates together,
+/// and whether there were hits. Then a bar, the ways of `k` and `z`, a bar, the statement, a bar, and the room of each
+/// cache. Each name is that of one predicate, which is True of all.
+///
+/// Each of the 300 rows of `z` is put to each of its conjuncts once, and each time a kept answer is given or the
+/// predicate called, whichever worker does it. How often tuples of joins are tested depends on the policies.
+const CASES: &str = "\
+300 300 some | s s | SELECT x FROM z WHERE p(x, 2) | 4
+300 300 some | s s | SELECT x FROM z WHERE p(x, 2) | 4096
+300 300 none | s s | SELECT x FROM z WHERE p(x, 2) | 0
+0 300 none | s s | SELECT x FROM z WHERE NOT p(x, 2) | 4
+300 any some | s s | SELECT x FROM k, z WHERE id = x AND p(x, 2) | 4
+300 any some | s 0 | SELECT x FROM k, z WHERE id = x AND p(x, 2) | 4";
+
+/// How many workers run each case, in turn.
+const CREWS: [usize; 3] = [1, 2, 8];
+
+// The tables: `k` with the numbers 0 to 2, and `z` with 300 rows of them in turn.
+fn tables_of(alloc: Global) -> Result<Catalogue, Fail> {
+    let mut lines = String::from_str(alloc, "k id:int/0/1/2\nz x:int")?;
+    for row in 0..300u32 {
+        let x = row % 3;
+        lines.push_str(format!(in alloc; "/{x}")?.as_str())?;
+    }
+    Ok(catalogue_of_lines(alloc, lines.as_str())?)
+}
+
+// What is said of a run by so many workers. Where `any`, not how often a condition was tested.
+fn said_of<R: Threads + Wait + Sync>(
+    rt: &R,
+    alloc: Global,
+    block: &Block,
+    tables: &Tables,
+    functions: &Counted,
+    workers: usize,
+    room: u32,
+    any: bool,
+) -> Result<String, Fail>
+    requires fits { IsFit (Counted.kinds_of functions.now) tables.now block.now }
+    requires reachable { IsReachable block.now }
+    requires workers { (0 < workers) × (workers ≤ 16) }
+    requires room { room ≤ 4096 }
+{
+    let policies = policies_of(alloc, workers)?;
+    let cached = run_many_cached(rt, alloc, block, tables, policies, functions, &NoGate, room)?;
+    let hits = cached.hits;
+    let found = cached.many.answered.combos.len();
+    let some = if hits > 0 { "some" } else { "none" };
+    if any {
+        return Ok(format!(in alloc; "{found} any {some}")?);
+    }
+    let tests = hits.saturating_add(functions.calls());
+    Ok(format!(in alloc; "{found} {tests} {some}")?)
+}
+
+// What is said of a case by so many workers.
+fn case_said<R: Threads + Wait + Sync>(
+    rt: &R,
+    alloc: Global,
+    catalogue: &Catalogue,
+    line: &str,
+    workers: usize,
+) -> Result<String, Fail>
+    requires workers { (0 < workers) × (workers ≤ 16) }
+{
+    let (want, rest) = line.split_once(" | ").unwrap_or(("", ""));
+    let (ways, rest) = rest.split_once(" | ").unwrap_or(("", ""));
+    let (text, room) = rest.split_once(" | ").unwrap_or(("", ""));
+    let room = room.parse::<u32>().unwrap_or(0).min(4096);
+    let any = want.contains("any");
+    let functions = Counted::new();
+    match block_of_case(alloc, catalogue, ways, text, &functions)? {
+        Some(block) => {
+            let tables = catalogue.tables();
+            said_of(rt, alloc, &block, tables, &functions, workers, room, any)
+        }
+        None => Ok(String::from_str(alloc, "no block")?),
+    }
+}
+
+#[test]
+fn each_worker_keeps_answers(rt: HostRuntime) -> Result<(), Fail> {
+    let alloc = rt.alloc();
+    let catalogue = tables_of(alloc)?;
+    for line in CASES.lines() {
+        let (want, _rest) = line.split_once(" | ").unwrap_or(("no bar", ""));
+        for workers in CREWS {
+            if 0 < workers && workers <= 16 {
+                let said = case_said(&rt, alloc, &catalogue, line, workers)?;
+                assert_eq!(rt; said.as_str(), want, "by {workers}: {line}");
+            }
+        }
+    }
+    Ok(())
+}
