@@ -13,11 +13,13 @@ mod HeldLemmas
 mod OperandFits
 mod TreeFits
 mod SpanLemmas
+mod RestFits
 mod BlockFits
 mod ShapeFits
 pub mod ParsedLemmas
 mod PartLemmas
 mod OccursLemmas
+mod FirstLemmas
 pub mod AnswerLemmas
 mod RepeatedLemmas
 mod PlaceLemmas

@@ -27,7 +27,8 @@ use Rattle.sq_bind.specs.declared.fault.BindFault.TheVariants.{NotGrouped}
 use Rattle.sq_bind.proofs.HeldLemmas.{AliasHas, each_append}
 use Rattle.sq_bind.proofs.OperandFits.{both_empty}
 use Rattle.sq_bind.proofs.BlockFits as fit
-use Rattle.sq_bind.proofs.BlockFits.{each_also}
+use Rattle.sq_bind.proofs.RestFits as there
+use Rattle.sq_bind.proofs.RestFits.{each_also}
 
 -- ---- cells of a grouped statement have one value in each group
 
@@ -59,12 +60,9 @@ items_settled aliases keys (i ∷ list) e =
 
 selected_settled : (aliases : List Alias) (keys : List ColumnOf) (star : ℕ) (i : Items) → ungrouped_faults aliases keys star i ≡ []
     → Each (IsSettled keys) (cells_of aliases i)
+unfolding cells_of
 selected_settled aliases keys star items.Star e = settled keys star (cells_of aliases items.Star) e
-selected_settled aliases keys star (items.List list) e = listed (items_settled aliases keys list e)
-  where
-    listed : Each (IsSettled keys) (flat_map (item_cells aliases) list) → Each (IsSettled keys) (cells_of aliases (items.List list))
-    unfolding cells_of
-    listed h = h
+selected_settled aliases keys star (items.List list) e = items_settled aliases keys list e
 
 grouped_settled : (aliases : List Alias) (s : Statement) → grouped_faults aliases s ≡ [] → is_grouped s ≡ true
     → Each (IsSettled (grouping_of aliases s.groups)) (cells_of aliases s.items)
@@ -94,13 +92,13 @@ module _ (scope : Scope) (s : Statement) where
   aliases = fit.aliases scope s
 
   abbrev Holds : Type 0
-  Holds = Each (AliasHas (fit.HasKindIn scope uses)) aliases
+  Holds = Each (AliasHas (there.HasKindIn scope uses)) aliases
 
-  keys_there : (h : Holds) (groups : List ColRef) → Each (fit.IsThere scope uses aliases h) (flat_map (grouping_by aliases) groups)
+  keys_there : (h : Holds) (groups : List ColRef) → Each (there.IsThere scope uses aliases h) (flat_map (grouping_by aliases) groups)
   keys_there h [] = tt
   keys_there h (c ∷ groups) =
-      each_append (fit.IsThere scope uses aliases h) (grouping_by aliases c) (flat_map (grouping_by aliases) groups)
-      (fit.grouping_there scope uses aliases h c (meant aliases c) refl) (keys_there h groups)
+      each_append (there.IsThere scope uses aliases h) (grouping_by aliases c) (flat_map (grouping_by aliases) groups)
+      (there.grouping_there scope uses aliases h c (meant aliases c) refl) (keys_there h groups)
 
   same : tables_used (matches_of scope s) ≡ uses
   unfolding matches_of
@@ -109,7 +107,7 @@ module _ (scope : Scope) (s : Statement) where
   column_fits : (c : ColumnOf) → IsSome (kind_in scope.tables uses c) → IsColumn scope.tables (matches_of scope s) c
   column_fits c h = subst (λ (ts : List ℕ). IsSome (kind_in scope.tables ts c)) (sym same) h
 
-  agg_fits : (h : Holds) (a : Option AggKind) (c : ColumnOf) → fit.IsSummed scope uses aliases h a c → FitsAgg scope.tables (matches_of scope s) a c
+  agg_fits : (h : Holds) (a : Option AggKind) (c : ColumnOf) → there.IsSummed scope uses aliases h a c → FitsAgg scope.tables (matches_of scope s) a c
   agg_fits h None c k = tt
   agg_fits h (Some agg.CountAll) c k = tt
   agg_fits h (Some agg.Count) c k = tt
@@ -117,7 +115,7 @@ module _ (scope : Scope) (s : Statement) where
   agg_fits h (Some agg.Min) c k = tt
   agg_fits h (Some agg.Max) c k = tt
 
-  sort_fits : (h : Holds) (cells : List Cell) (on : SortOn) → fit.OnThere scope uses aliases h cells on → FitsSort scope.tables (matches_of scope s) (length cells) on
+  sort_fits : (h : Holds) (cells : List Cell) (on : SortOn) → there.OnThere scope uses aliases h cells on → FitsSort scope.tables (matches_of scope s) (length cells) on
   sort_fits h cells (sort.Cell place) k = k
   sort_fits h cells (sort.Column c) k = column_fits c k
 
@@ -129,17 +127,17 @@ module _ (scope : Scope) (s : Statement) where
       let keys = flat_map (grouping_by aliases) s.groups in
       record {
         keys = All-from_recursion (IsColumn scope.tables (matches_of scope s)) keys
-            (each_also (fit.IsThere scope uses aliases h) (IsColumn scope.tables (matches_of scope s)) keys column_fits (keys_there h s.groups));
+            (each_also (there.IsThere scope uses aliases h) (IsColumn scope.tables (matches_of scope s)) keys column_fits (keys_there h s.groups));
         cells = All-from_recursion (λ (c : Cell). IsColumn scope.tables (matches_of scope s) c.column) cells
-            (each_also (fit.CellThere scope uses aliases h) (λ (c : Cell). IsColumn scope.tables (matches_of scope s) c.column) cells
+            (each_also (there.CellThere scope uses aliases h) (λ (c : Cell). IsColumn scope.tables (matches_of scope s) c.column) cells
             (λ c k. column_fits c.column k.0) fine.shown);
         sums = All-from_recursion (λ (c : Cell). FitsAgg scope.tables (matches_of scope s) c.agg c.column) cells
-            (each_also (fit.CellThere scope uses aliases h) (λ (c : Cell). FitsAgg scope.tables (matches_of scope s) c.agg c.column) cells
+            (each_also (there.CellThere scope uses aliases h) (λ (c : Cell). FitsAgg scope.tables (matches_of scope s) c.agg c.column) cells
             (λ c k. agg_fits h c.agg c.column k.1) fine.shown);
         order = All-from_recursion (λ (k : ShapeOrder). FitsSort scope.tables (matches_of scope s) (length cells) k.on) order
-            (each_also (λ (k : ShapeOrder). fit.OnThere scope uses aliases h cells k.on)
+            (each_also (λ (k : ShapeOrder). there.OnThere scope uses aliases h cells k.on)
             (λ (k : ShapeOrder). FitsSort scope.tables (matches_of scope s) (length cells) k.on) order
-            (λ k there. sort_fits h cells k.on there) fine.order);
+            (λ k held. sort_fits h cells k.on held) fine.order);
         whole = λ grouped none. All-from_recursion (λ (c : Cell). IsSome c.agg) cells
             (each_also (IsSettled []) (λ (c : Cell). IsSome c.agg) cells counts
             (subst (λ (keys : List ColumnOf). Each (IsSettled keys) cells) none (grouped_settled aliases s fine.grouped grouped)));

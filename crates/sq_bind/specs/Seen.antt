@@ -1,4 +1,5 @@
--- Serves proofs: aliases and what may be sorted by as definitions see them, the places of conjuncts, and whether a list has none, one or more.
+-- Serves proofs: aliases and what may be sorted by as definitions see them, the places of conjuncts, and whether a list
+-- has none, one or more.
 use Rattle.std.specs.Prelude.{ℕ, Bool, if◌then◌else◌, List, [], ◌∷◌, map, Result, Ok, Err}
 use Rattle.sq_bind.specs.Visible as spec
 use Rattle.sq_bind.specs.declared.visible.SeenAlias.{SeenAlias}

@@ -47,11 +47,7 @@ fn push_alias(alloc: Global, alias: &SeenAlias<'_>, cells: &mut Vec<Cell>) -> Re
     push_columns(alloc, alias.number, alias.table.columns(), cells)
 }
 
-fn push_all(
-    alloc: Global,
-    aliases: &[SeenAlias<'_>],
-    cells: &mut Vec<Cell>,
-) -> Result<(), Memory>
+fn push_all(alloc: Global, aliases: &[SeenAlias<'_>], cells: &mut Vec<Cell>) -> Result<(), Memory>
     ensures { OnOk result (cells.new.items ≡ cells.old.items ++ flat_map spec.columns_of (map seen aliases.now)) }
 {
     for alias in aliases {
@@ -328,11 +324,7 @@ fn summed_fault(aliases: &[SeenAlias<'_>], kind: AggKind, column: &ColRef) -> Op
     }
 }
 
-fn agg_fault(
-    aliases: &[SeenAlias<'_>],
-    kind: AggKind,
-    column: &Option<ColRef>,
-) -> Option<BindFault>
+fn agg_fault(aliases: &[SeenAlias<'_>], kind: AggKind, column: &Option<ColRef>) -> Option<BindFault>
     ensures { result ≡ first_of (spec.agg_faults (map seen aliases.now) kind column.now) }
 {
     match column {

@@ -240,7 +240,11 @@ fn is_front_told(alloc: Global, script: &str, length: usize) -> Result<bool, Fai
     let found = answer(alloc, front)?;
     let word = format!(in alloc; "Syntax {}", last_word(front))?;
     let end = format!(in alloc; "Syntax {length}")?;
-    Ok(found.as_str() == "tree" || found.as_str() == end.as_str() || found.as_str() == word.as_str())
+    Ok(
+        found.as_str() == "tree"
+            || found.as_str() == end.as_str()
+            || found.as_str() == word.as_str(),
+    )
 }
 
 // The first of these scripts with a proper front that is told otherwise, or nothing.

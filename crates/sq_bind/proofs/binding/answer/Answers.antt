@@ -14,7 +14,8 @@ use Rattle.sq_bind.specs.Statement.{from_faults, aliases_from, aliases_in, place
 use Rattle.sq_bind.specs.declared.visible.SeenAlias.{SeenAlias}
 use Rattle.sq_bind.specs.declared.fault.BindFault.TheVariants.{Memory}
 use Rattle.sq_bind.proofs.AnswerLemmas as by
-use Rattle.sq_bind.proofs.BlockFits.{length-aliases}
+use Rattle.sq_bind.proofs.FirstLemmas.{none_first}
+use Rattle.sq_bind.proofs.RestFits.{length-aliases}
 use Rattle.sq_bind.proofs.ParsedLemmas.{parsed_sound}
 use Rattle.sq_bind.proofs.binding.answer.Goals as goal
 
@@ -40,7 +41,7 @@ aliases_of-requires-clause-few g c =
     let items : c.in_ok-found.found.items ≡ tables s.sources = c.in_ok-found.ensures.found ∙ ap tables sources in
     let first = c.in_ok-fault.ensures scope (c.as_slice.ensures.value ∙ c.in_ok-found.ensures.found) in
     let told = ap (λ (ss : List Source). first_of (from_faults scope ss)) (sym sources) ∙ sym first in
-    let from = by.none_first (from_faults scope s.sources) (told ∙ c.in_default.is) in
+    let from = none_first (from_faults scope s.sources) (told ∙ c.in_default.is) in
     let few = by.few_sources scope s from in
     let same = ap length sources in
     omega (arith, few, same)
@@ -55,7 +56,7 @@ aliases_of-requires-clause-there g c =
     let items : c.in_ok-found.found.items ≡ tables s.sources = c.in_ok-found.ensures.found ∙ ap tables sources in
     let first = c.in_ok-fault.ensures scope (c.as_slice.ensures.value ∙ c.in_ok-found.ensures.found) in
     let told = ap (λ (ss : List Source). first_of (from_faults scope ss)) (sym sources) ∙ sym first in
-    let from = by.none_first (from_faults scope s.sources) (told ∙ c.in_default.is) in
+    let from = none_first (from_faults scope s.sources) (told ∙ c.in_default.is) in
     let there = by.found_there scope s (λ (table : ℕ). table < length c.args.catalogue.now.tables) c.in_ok-found.found.items items from c.in_ok-found.ensures.within in
     let P = λ (n : ℕ) (found : List (Option ℕ)). All (λ one. IsSomeAnd one (λ table. table < n)) found in
     subst (λ (found : List (Option ℕ)). P (length c.tables.result.now) found) (sym c.as_slice-2.ensures.value)
@@ -88,7 +89,7 @@ returns-in_err-shaped-clause-answer g c =
     let items : c.in_ok-found.found.items ≡ tables s.sources = c.in_ok-found.ensures.found ∙ ap tables sources in
     let first = c.in_ok-fault.ensures scope (c.as_slice.ensures.value ∙ c.in_ok-found.ensures.found) in
     let told = ap (λ (ss : List Source). first_of (from_faults scope ss)) (sym sources) ∙ sym first in
-    let from = by.none_first (from_faults scope s.sources) (told ∙ c.in_default.is) in
+    let from = none_first (from_faults scope s.sources) (told ∙ c.in_default.is) in
     let kept : map seen c.in_ok-aliases.aliases.items ≡ aliases_in scope s =
     c.in_ok-aliases.ensures.aliases scope (sym c.tables.ensures) (c.as_slice-2.ensures.value ∙ c.in_ok-found.ensures.found)
     ∙ ap (aliases_from scope 0) sources in
@@ -107,7 +108,7 @@ reached_shape-requires g c =
     let items : c.in_ok-found.found.items ≡ tables s.sources = c.in_ok-found.ensures.found ∙ ap tables sources in
     let first = c.in_ok-fault.ensures scope (c.as_slice.ensures.value ∙ c.in_ok-found.ensures.found) in
     let told = ap (λ (ss : List Source). first_of (from_faults scope ss)) (sym sources) ∙ sym first in
-    let from = by.none_first (from_faults scope s.sources) (told ∙ c.in_default.is) in
+    let from = none_first (from_faults scope s.sources) (told ∙ c.in_default.is) in
     let kept : map seen c.in_ok-aliases.aliases.items ≡ aliases_in scope s =
     c.in_ok-aliases.ensures.aliases scope (sym c.tables.ensures) (c.as_slice-2.ensures.value ∙ c.in_ok-found.ensures.found)
     ∙ ap (aliases_from scope 0) sources in
@@ -133,7 +134,7 @@ returns-clause-answer g c =
     let items : c.in_ok-found.found.items ≡ tables s.sources = c.in_ok-found.ensures.found ∙ ap tables sources in
     let first = c.in_ok-fault.ensures scope (c.as_slice.ensures.value ∙ c.in_ok-found.ensures.found) in
     let told = ap (λ (ss : List Source). first_of (from_faults scope ss)) (sym sources) ∙ sym first in
-    let from = by.none_first (from_faults scope s.sources) (told ∙ c.in_default.is) in
+    let from = none_first (from_faults scope s.sources) (told ∙ c.in_default.is) in
     let kept : map seen c.in_ok-aliases.aliases.items ≡ aliases_in scope s =
     c.in_ok-aliases.ensures.aliases scope (sym c.tables.ensures) (c.as_slice-2.ensures.value ∙ c.in_ok-found.ensures.found)
     ∙ ap (aliases_from scope 0) sources in
@@ -160,7 +161,7 @@ returns-clause-plain_fits g c =
     let items : c.in_ok-found.found.items ≡ tables s.sources = c.in_ok-found.ensures.found ∙ ap tables sources in
     let first = c.in_ok-fault.ensures scope (c.as_slice.ensures.value ∙ c.in_ok-found.ensures.found) in
     let told = ap (λ (ss : List Source). first_of (from_faults scope ss)) (sym sources) ∙ sym first in
-    let from = by.none_first (from_faults scope s.sources) (told ∙ c.in_default.is) in
+    let from = none_first (from_faults scope s.sources) (told ∙ c.in_default.is) in
     let kept : map seen c.in_ok-aliases.aliases.items ≡ aliases_in scope s =
     c.in_ok-aliases.ensures.aliases scope (sym c.tables.ensures) (c.as_slice-2.ensures.value ∙ c.in_ok-found.ensures.found)
     ∙ ap (aliases_from scope 0) sources in
@@ -190,7 +191,7 @@ returns-clause-fits g c =
     let items : c.in_ok-found.found.items ≡ tables s.sources = c.in_ok-found.ensures.found ∙ ap tables sources in
     let first = c.in_ok-fault.ensures scope (c.as_slice.ensures.value ∙ c.in_ok-found.ensures.found) in
     let told = ap (λ (ss : List Source). first_of (from_faults scope ss)) (sym sources) ∙ sym first in
-    let from = by.none_first (from_faults scope s.sources) (told ∙ c.in_default.is) in
+    let from = none_first (from_faults scope s.sources) (told ∙ c.in_default.is) in
     let kept : map seen c.in_ok-aliases.aliases.items ≡ aliases_in scope s =
     c.in_ok-aliases.ensures.aliases scope (sym c.tables.ensures) (c.as_slice-2.ensures.value ∙ c.in_ok-found.ensures.found)
     ∙ ap (aliases_from scope 0) sources in
@@ -220,7 +221,7 @@ returns-clause-shape_fits g c =
     let items : c.in_ok-found.found.items ≡ tables s.sources = c.in_ok-found.ensures.found ∙ ap tables sources in
     let first = c.in_ok-fault.ensures scope (c.as_slice.ensures.value ∙ c.in_ok-found.ensures.found) in
     let told = ap (λ (ss : List Source). first_of (from_faults scope ss)) (sym sources) ∙ sym first in
-    let from = by.none_first (from_faults scope s.sources) (told ∙ c.in_default.is) in
+    let from = none_first (from_faults scope s.sources) (told ∙ c.in_default.is) in
     let kept : map seen c.in_ok-aliases.aliases.items ≡ aliases_in scope s =
     c.in_ok-aliases.ensures.aliases scope (sym c.tables.ensures) (c.as_slice-2.ensures.value ∙ c.in_ok-found.ensures.found)
     ∙ ap (aliases_from scope 0) sources in
