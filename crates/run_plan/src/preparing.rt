@@ -22,7 +22,7 @@ use catalogue::Catalogue;
 use command_line::{AccessWord, Query};
 use outside::Folder;
 use run_base::Bound;
-use sq_bind::{Shaped, bind, bind_shape};
+use sq_bind::{bind, bind_shape};
 use sq_expr::Access;
 use sq_parse::{Script, Statement, is_shaped, parse};
 use sq_value::Predicates;
@@ -81,9 +81,9 @@ fn bind_shaped<P: Predicates>(
         Refuses (spec.IsBoundTo (over catalogue.now accesses.now calls) number statement.now (Err s)) s) }
 {
     match bind_shape(alloc, statement, catalogue, accesses, functions) {
-        Ok(Shaped { block, shape }) => Ok(Bound {
-            block,
-            shape: Some(shape),
+        Ok(shaped) => Ok(Bound {
+            block: shaped.block,
+            shape: Some(shaped.shape),
         }),
         Err(fault) => Err(bind_status(number, fault)),
     }
