@@ -25,12 +25,26 @@ script: syntax at byte 38
                                           ^
   a script has whole numbers alone: for price < 1.5 write 10 * price < 15
 """),
-    ("DISTINCT", ["-c", "SELECT DISTINCT city FROM people", "people.csv"], 3, """\
-script: syntax at byte 7
+    ("HAVING", ["-c", "SELECT city FROM people GROUP BY city HAVING city > 'A'", "people.csv"], 3, """\
+script: syntax at byte 38
+  -c:1:39
+    SELECT city FROM people GROUP BY city HAVING city > 'A'
+                                          ^
+  HAVING isn't in the dialect: run a second script over the answer, with WHERE
+"""),
+    ("a column that isn't grouped", ["-c", "SELECT name FROM people GROUP BY city", "people.csv"], 3, """\
+statement 1: not grouped at byte 7
   -c:1:8
-    SELECT DISTINCT city FROM people
+    SELECT name FROM people GROUP BY city
            ^
-  DISTINCT isn't in the dialect: pipe the answer through awk '!seen[$0]++'
+  with groups a column that is shown or sorted by stands in GROUP BY, or in COUNT, SUM, MIN or MAX
+"""),
+    ("a column that isn't selected", ["-c", "SELECT DISTINCT name FROM people ORDER BY city", "people.csv"], 3, """\
+statement 1: not selected at byte 42
+  -c:1:43
+    SELECT DISTINCT name FROM people ORDER BY city
+                                              ^
+  with DISTINCT only what is selected can be sorted by
 """),
     ("LIKE", ["-c", "SELECT id FROM people WHERE name LIKE 'A%'", "people.csv"], 3, """\
 script: syntax at byte 33
@@ -93,7 +107,7 @@ statement 1: type mismatch at byte 28
   -c:1:29
     SELECT id FROM people WHERE name = 1
                                 ^
-  numbers are compared with numbers, texts with texts; --type T.C=dec2 reads a column as numbers
+  numbers are compared with numbers, texts with texts, and a sum is of numbers; --type T.C=dec2 reads a column as numbers
 """),
     ("a short record", ["-c", "SELECT id FROM short", "short.csv"], 4, """\
 table short: record 2 is unequal

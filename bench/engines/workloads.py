@@ -39,8 +39,8 @@ class Workload:
 
     def heading(self):
         """The headings of its answers, which are all one; the comparison passes over them."""
-        names = self.statements[0].split(" FROM ")[0].removeprefix("SELECT ").split(",")
-        return ",".join(it.split(".")[-1].strip() for it in names)
+        names = self.statements[0].split(" FROM ")[0].removeprefix("SELECT ").removeprefix("DISTINCT ").split(",")
+        return ",".join(it.split(" AS ")[-1].split(".")[-1].strip() for it in names)
 
 
 def numbers(rng, rows, below):
@@ -362,6 +362,43 @@ def order(rows):
                           f["items"]], is_ordered=True)
 
 
+def groups(rows):
+    """A join whose matches are counted and summed by a text of the small table."""
+    side = max(rows // 1000, 20)
+
+    def sales(rng):
+        return lines(range(rows), numbers(rng, rows, side), numbers(rng, rows, 1000))
+
+    def shops(rng):
+        return lines(range(side), [f"{rng.choice(CITIES)} {it % 10}" for it in range(side)])
+
+    return Workload(
+        "groups", f"a join of {rows:,} by {side:,} rows, grouped by a text of the small table, with a count, a sum and the greatest number; the "
+        "ten groups with the greatest sums",
+        [Table("sales", ["id int", "shop int", "amount int"], sales, rows), Table("shops", ["shop int", "town text"], shops, side)],
+        ["SELECT h.town, COUNT(*) AS n, SUM(s.amount) AS total, MAX(s.amount) AS most FROM sales s JOIN shops h ON h.shop = s.shop "
+         "GROUP BY h.town ORDER BY total DESC, h.town LIMIT 10"],
+        miller=lambda f: ["--icsv", "--ocsv", "--ho", "join", "-j", "shop", "-f", f["shops"], "then", "stats1", "-a", "count,sum,max", "-f", "amount",
+                          "-g", "town", "then", "sort", "-nr", "amount_sum", "-f", "town", "then", "head", "-n", "10", f["sales"]],
+        awk=lambda f: ["-F,", "FNR == 1 { file++; next } file == 1 { town[$1] = $2; next } $2 in town { t = town[$2]; n[t]++; sum[t] += $3; "
+                       "if (!(t in most) || $3 + 0 > most[t]) most[t] = $3 + 0 } END { for (t in n) print t \",\" n[t] \",\" sum[t] \",\" most[t] "
+                       "| \"LC_ALL=C sort -t, -k3,3nr -k1,1 | head -n 10\" }", f["shops"], f["sales"]],
+        is_ordered=True)
+
+
+def different(rows):
+    """DISTINCT over two columns, of which a fiftieth of the pairs are different."""
+    def visits(rng):
+        return lines(range(rows), rng.choices(CITIES, k=rows), numbers(rng, rows, max(rows // 1000, 1)))
+
+    return Workload(
+        "distinct", f"DISTINCT over a text and a number of {rows:,} rows, of which one in fifty is another line",
+        [Table("visits", ["id int", "city text", "page int"], visits, rows)],
+        ["SELECT DISTINCT city, page FROM visits"],
+        miller=lambda f: ["--icsv", "--ocsv", "--ho", "head", "-n", "1", "-g", "city,page", "then", "cut", "-o", "-f", "city,page", f["visits"]],
+        awk=lambda f: ["-F,", "FNR > 1 && !seen[$2 \",\" $3]++ { print $2 \",\" $3 }", f["visits"]])
+
+
 def all_workloads(scale):
     def of(rows):
         return max(int(rows * scale), 10)
@@ -369,7 +406,8 @@ def all_workloads(scale):
     return [*(equality(of(rows)) for rows in (10_000, 30_000, 100_000, 300_000, 1_000_000)), long_lists(of(20_000)), star(of(500_000)),
             chain(of(20_000)), drift(of(20_000)), tail(of(100_000)), tail(of(100_000), True), drift_of_five(of(100_000)),
             drift_of_five(of(300_000)), star_by_four(of(500_000)), knot("clique", of(20_000), of(500), CLIQUE), knot("cycle", of(20_000), of(5_000), CYCLE),
-            composite(of(50_000), 2), composite(of(50_000), 4), skewed(of(20_000)), band(of(30_000)), nulls(of(200_000)), texts(of(750_000)), small(of(1_000)), order(of(900_000))]
+            composite(of(50_000), 2), composite(of(50_000), 4), skewed(of(20_000)), band(of(30_000)), nulls(of(200_000)), texts(of(750_000)), small(of(1_000)), order(of(900_000)),
+            groups(of(1_000_000)), different(of(1_000_000))]
 
 
 def write_table(table, path, seed):

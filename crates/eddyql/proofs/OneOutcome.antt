@@ -1,22 +1,25 @@
 -- Words over files have one outcome.
-use Rattle.std.proofs.Common.{◌≡◌, ℕ, ◌+◌, ◌%◌, ◌<◌, List, [], ◌∷◌, length, get_or, Result, Ok, Err, refl, sym, ◌∙◌, ap, subst, ◌⊎◌, inl, inr}
+use Rattle.std.proofs.Common.{◌≡◌, ℕ, ◌+◌, ◌%◌, ◌<◌, Bool, true, false, List, [], ◌∷◌, length, get_or, Option, Some, None, Result, Ok, Err, refl, sym, ◌∙◌, ap, subst, ◌⊎◌, inl, inr}
 use Rattle.std.specs.Prelude.{All}
 use Rattle.std.proofs.lemmas.List.Elements.{All-head, All-tail, Contains-get_or}
 use Rattle.outside.specs.Files.{File}
 use Rattle.sq_parse.specs.Fault.{ReadsAs}
+use Rattle.sq_parse.specs.Shaped.{is_shaped}
 use Rattle.sq_parse.specs.declared.parser.ParseFault.{ParseFault}
 use Rattle.sq_parse.proofs.OneReading.{one_reading, same_reading}
 use Rattle.sq_parse.specs.declared.tree.Script.{Script}
 use Rattle.sq_parse.specs.declared.tree.Statement.{Statement}
 use Rattle.sq_expr.specs.declared.block.Block.{Block}
+use Rattle.sq_expr.specs.declared.shape.Shape.{Shape}
 use Rattle.run_base.specs.declared.bound.Bound.{Bound}
 use Rattle.catalogue.specs.Named.{NamedTables}
 use Rattle.sq_bind.specs.Answer as binding
 use Rattle.sq_bind.specs.Given.{over}
 use Rattle.sq_bind.specs.Statement.{Scope}
-use Rattle.sq_bind.proofs.AnswerLemmas.{one_fault, no_fault, some_answer}
+use Rattle.sq_bind.proofs.AnswerLemmas.{one_fault, no_fault, no_fault_shape, some_answer, some_shape}
 use Rattle.sq_bind.proofs.ParsedLemmas.{parsed_sound}
 use Rattle.sq_bind.specs.declared.fault.BindFault.{BindFault}
+use Rattle.sq_bind.specs.declared.shaped.Shaped.{Shaped}
 use Rattle.command_line.specs.declared.command.AccessWord.{AccessWord}
 use Rattle.command_line.specs.declared.command.Query.{Query}
 use Rattle.command_line.specs.declared.command.Task.{Task}
@@ -26,7 +29,7 @@ use Rattle.run_plan.specs.DemoScript.{demo_script}
 use Rattle.run_plan.specs.Accesses.{accesses_read}
 use Rattle.run_plan.specs.Faults.{script_status, bind_status}
 use Rattle.run_plan.specs.Files.{file_read, catalogue_read}
-use Rattle.run_plan.specs.Prepared.{IsSpelled, IsScript, IsBoundTo, AreBoundTo, IsBoundPlan, IsPlan, IsDemoPlan, Predicates}
+use Rattle.run_plan.specs.Prepared.{IsSpelled, IsScript, IsBoundAs, IsBoundTo, AreBoundTo, IsBoundPlan, IsPlan, IsDemoPlan, Predicates}
 use Rattle.run_plan.specs.Steps.{Behind, AndThen, ComesTo, or_refuse, or_fault}
 use Rattle.run_plan.specs.declared.status.FileOf.TheVariants as file
 use Rattle.run_plan.specs.declared.status.Status.{Status}
@@ -53,14 +56,32 @@ one_then first more one each x y h k =
 one_spelled : (text : List ℕ) → IsOne (IsSpelled text)
 one_spelled text x y h k = h.2 ∙ ap (or_fault script_status) (same_reading text h.0 k.0 h.1 k.1) ∙ sym k.2
 
--- a bound statement is told by its block
-same_bound : (b c : Bound) → b.block ≡ c.block → b ≡ c
-same_bound b c e = ap (λ (x : Block). let bound : Bound = record { block = x } in bound) e
+-- a bound statement is told by its block and its shape
+bound_of : Block → Option Shape → Bound
+bound_of block shape = record { block = block; shape = shape }
+
+-- a statement has a shape or none
+apart : true ≡ false → ⊥
+apart e = cc
+
+-- a statement is bound to one block and one shape, or none
+one_as : (scope : Scope) (s : Statement) (x y : Block) (u v : Option Shape) → IsBoundAs scope s x u → IsBoundAs scope s y v
+    → bound_of x u ≡ bound_of y v
+one_as scope s x y None None h k = ap (λ (b : Block). bound_of b None) (h.1.is ∙ sym k.1.is)
+one_as scope s x y None (Some v) h k = absurd (apart (sym k.0 ∙ h.0))
+one_as scope s x y (Some u) None h k = absurd (apart (sym h.0 ∙ k.0))
+one_as scope s x y (Some u) (Some v) h k = ap (λ (t : Shaped). bound_of t.block (Some t.shape)) (h.1.is ∙ sym k.1.is)
+
+-- and to nothing beside a fault
+none_as : (scope : Scope) (s : Statement) (x : Block) (u : Option Shape) (f : BindFault) → IsBoundAs scope s x u → binding.IsBindFault scope s f → ⊥
+none_as scope s x None f h k = no_fault scope s x f h.1 k
+none_as scope s x (Some u) f h k = no_fault_shape scope s record { block = x; shape = u } f h.1 k
 
 one_block : (scope : Scope) (number : ℕ) (s : Statement) → IsOne (IsBoundTo scope number s)
-one_block scope number s (Ok b) (Ok c) h k = ap Ok (same_bound b c (h.is ∙ sym k.is))
-one_block scope number s (Ok b) (Err r) h k = absurd (no_fault scope s b.block k.0 h k.1)
-one_block scope number s (Err r) (Ok c) h k = absurd (no_fault scope s c.block h.0 k h.1)
+unfolding bound_of
+one_block scope number s (Ok b) (Ok c) h k = ap Ok (one_as scope s b.block c.block b.shape c.shape h k)
+one_block scope number s (Ok b) (Err r) h k = absurd (none_as scope s b.block b.shape k.0 h k.1)
+one_block scope number s (Err r) (Ok c) h k = absurd (none_as scope s c.block c.shape h.0 k h.1)
 one_block scope number s (Err r) (Err t) h k = ap Err (h.2 ∙ ap (bind_status number) (one_fault scope s h.0 k.0 h.1 k.1) ∙ sym k.2)
 
 one_blocks : (scope : Scope) (number : ℕ) (ss : List Statement) → IsOne (AreBoundTo scope number ss)
@@ -138,11 +159,21 @@ some_script files name =
     some_then (ComesTo (file_read file.Script files name)) IsSpelled (some_given (file_read file.Script files name)) (λ text h. some_spelled text)
 
 some_block : (scope : Scope) (number : ℕ) (s : Statement) → 0 < length s.sources → Comes (IsBoundTo scope number s)
-some_block scope number s some = by (some_answer scope s some)
+some_block scope number s some = by (is_shaped s) refl
   where
-    by : ((block : Block) × binding.IsBound scope s block) ⊎ ((x : BindFault) × binding.IsBindFault scope s x) → Comes (IsBoundTo scope number s)
-    by (inl h) = (Ok (record { block = h.0 }), h.1)
-    by (inr h) = (Err (bind_status number h.0), (h.0, h.1, refl))
+    plain : is_shaped s ≡ false → ((block : Block) × binding.IsBound scope s block) ⊎ ((x : BindFault) × binding.IsBindFault scope s x)
+        → Comes (IsBoundTo scope number s)
+    plain e (inl h) = (Ok (record { block = h.0; shape = None }), (e, h.1))
+    plain e (inr h) = (Err (bind_status number h.0), (h.0, h.1, refl))
+
+    shaped : is_shaped s ≡ true → ((t : Shaped) × binding.IsBoundShape scope s t) ⊎ ((x : BindFault) × binding.IsBindFault scope s x)
+        → Comes (IsBoundTo scope number s)
+    shaped e (inl h) = (Ok (record { block = h.0.block; shape = Some h.0.shape }), (e, h.1))
+    shaped e (inr h) = (Err (bind_status number h.0), (h.0, h.1, refl))
+
+    by : (b : Bool) → is_shaped s ≡ b → Comes (IsBoundTo scope number s)
+    by true e = shaped e (some_shape scope s some)
+    by false e = plain e (some_answer scope s some)
 
 -- a statement has sources
 abbrev pub HasSource : Statement → Type 0

@@ -182,8 +182,9 @@ fn run_words<F: Folder, O: Sink, N: Sink, P: Predicates + Sync, G: Gate, R: Thre
 ///
 /// The words don't hold the program's own name. In this order they are read, the script is loaded and
 /// parsed, each table is loaded and read, the columns of the accesses are found, and all statements
-/// are bound; then each statement is run, and its answer is put in order and written to the output.
-/// Nothing is written before. The first refusal ends the run, and one line on the notes says why.
+/// are bound; then each statement is run, and its answer is written to the output: its matches in order,
+/// or with groups, DISTINCT or LIMIT the lines that are made of them. Nothing is written before. The
+/// first refusal ends the run, and one line on the notes says why.
 ///
 /// Where the folder tells what it holds, `Done` has written exactly the text of the outcome of these
 /// words, files and predicates, and any refusal but a fault of the folder or the output, or want of

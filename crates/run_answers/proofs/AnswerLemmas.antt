@@ -18,16 +18,20 @@ use Rattle.sq_value.specs.declared.predicate.Kinds.{Kinds}
 use Rattle.sq_value.proofs.OrderLemmas.{sorted_by_total}
 use Rattle.sq_expr.specs.Fits.{IsFit}
 use Rattle.sq_expr.specs.declared.block.Block.{Block}
+use Rattle.sq_expr.specs.declared.shape.Cell.{Cell}
+use Rattle.sq_expr.specs.declared.shape.Shape.{Shape}
 use Rattle.bag_meaning.specs.Bag.{bag}
 use Rattle.bag_meaning.specs.Answer.{answer, answer_order, answer_text, heading_fields, Rises}
 use Rattle.bag_meaning.specs.Combination.{padded, stamped}
 use Rattle.bag_meaning.specs.declared.combo.Combo.{Combo}
-use Rattle.bag_meaning.proofs.AnswerLemmas.{IsBefore, AllPairs-bag, IsAnswer-answer, IsAnswer-only}
+use Rattle.bag_meaning.proofs.AnswerLemmas.{IsBefore, AllPairs-bag, IsAnswer-answer, IsAnswer-only, answer-unordered}
 use Rattle.bag_meaning.proofs.KeyLemmas.{answer_order_total}
 use Rattle.bag_meaning.proofs.ProductRange.{bag-in_range}
 use Rattle.eddy_runs.specs.Complete.{IsBagOf}
 use Rattle.outside.proofs.Laws.{RoseOrFull-earlier, Adds-nothing, Adds-twice, AddsFront-nothing, AddsFront-after, AddsFront-longer}
 use Rattle.csv.specs.Writing.{row_text, default_writer}
+use Rattle.group_sink.specs.Lines.{lines_of, lines_text, in_product_order}
+use Rattle.group_sink.proofs.ProductLemmas.{product-order, rows-differ}
 use Rattle.result_sink.proofs.TextLemmas.{row_text-some}
 use Rattle.result_sink.specs.Ready.{IsShown, IsOrdered, Differs, rows_of_combo}
 use Rattle.result_sink.specs.declared.fault.WriteFault.{WriteFault}
@@ -35,7 +39,7 @@ use Rattle.result_sink.specs.declared.fault.WriteFault.TheVariants as write
 use Rattle.run_answers.specs.Wrote.{Wrote}
 use Rattle.run_base.specs.Items.{Item}
 use Rattle.run_base.specs.Seen.{Sink}
-use Rattle.run_answers.specs.Text.{item_text}
+use Rattle.run_answers.specs.Text.{plain_text, shaped_text, answer_lines}
 use Rattle.run_answers.proofs.ApartLemmas.{AreApart, AreApart-from_pairs, AreApart-permutation}
 
 -- ---- the answer
@@ -138,6 +142,23 @@ pub answer_sorted : {T E : Type 0} (items : T → List Combo) (r : Result T E) (
 answer_sorted items (Ok x) gives block tables combos e moved rises = answer_found gives block tables combos (items x) e moved rises
 answer_sorted items (Err e) gives block tables combos f moved rises = tt
 
+-- what was found, in the order of the product, is all matches
+pub members_found : (gives : ℕ → Value → Value → Truth) (block : Block) (tables : List Relation) (combos : List Combo) → block.order ≡ []
+    → IsBagOf gives block tables combos → in_product_order (map (rows_of_combo block) combos) ≡ bag gives block tables
+members_found gives block tables combos none found =
+    let rises : Rises (answer_order block tables) (bag gives block tables) =
+    subst (λ (xs : List (List ℕ)). Rises (answer_order block tables) xs) (answer-unordered gives block tables none)
+    (IsAnswer-answer gives block tables (answer_order_total sorted_by_total block tables)).rises in
+    sym (product-order block tables none (map (rows_of_combo block) combos) (bag gives block tables)
+    (rows-differ block combos (apart_found gives block tables combos found)) (rows_found gives block tables combos found) rises)
+
+-- and so a shape makes the same lines of it
+pub lines_made : (gives : ℕ → Value → Value → Truth) (item : Item) (shape : Shape) (combos : List Combo) → item.bound.block.order ≡ []
+    → IsBagOf gives item.bound.block item.tables combos
+    → lines_of item.bound.block item.tables shape (in_product_order (map (rows_of_combo item.bound.block) combos)) ≡ answer_lines gives item shape
+lines_made gives item shape combos none found =
+    ap (lines_of item.bound.block item.tables shape) (members_found gives item.bound.block item.tables combos none found)
+
 -- a block that fits can be put in order and written
 pub shown_fit : (kinds : ℕ → Option Kinds) (tables : List Relation) (block : Block) → IsFit kinds tables block → IsShown block tables
 shown_fit kinds tables block fit = record { few = fit.few_aliases; output = fit.output }
@@ -185,11 +206,19 @@ wrote_front old new first second e w = record {
 pub wrote_text : (old new : Sink) (text other : List ℕ) (r : Result (Unit {0}) WriteFault) → text ≡ other → Wrote old new text r → Wrote old new other r
 wrote_text old new text other r e w = subst (λ (x : List ℕ). Wrote old new x r) e w
 
+-- a text that begins with a record isn't empty
+begun : (xs ys : List ℕ) → xs ≢ [] → xs ++ ys ≡ [] → ⊥
+begun [] ys n f = n refl
+begun (x ∷ xs) ys n f = cc
+
 -- the text of an answer is never empty: its heading ends with a line feed
-pub item_text-some : (gives : ℕ → Value → Value → Truth) (item : Item) → item_text gives item ≢ []
+pub plain_text-some : (gives : ℕ → Value → Value → Truth) (item : Item) → plain_text gives item ≢ []
 unfolding answer_text
-item_text-some gives item e = heading (row_text default_writer (heading_fields item.bound.block)) _ (row_text-some (heading_fields item.bound.block)) e
-  where
-    heading : (xs ys : List ℕ) → xs ≢ [] → xs ++ ys ≡ [] → ⊥
-    heading [] ys n f = n refl
-    heading (x ∷ xs) ys n f = cc
+plain_text-some gives item e =
+    begun (row_text default_writer (heading_fields item.bound.block)) _ (row_text-some (heading_fields item.bound.block)) e
+
+pub shaped_text-some : (gives : ℕ → Value → Value → Truth) (item : Item) (shape : Shape) → shaped_text gives item shape ≢ []
+unfolding lines_text
+shaped_text-some gives item shape e =
+    let names : List (List ℕ) = map (λ (c : Cell). c.name) shape.cells in
+    begun (row_text default_writer names) _ (row_text-some names) e

@@ -45,8 +45,8 @@ line_of_counts number aliases log hops looked hits =
     codes "query " ++ decimal number ++ codes ": built " ++ built_text aliases log ++ codes " hops " ++ decimal hops
     ++ codes " looked " ++ decimal looked ++ hits_text hits ++ 10 ∷ []
 
--- a line tells the counts of a run of a statement, whose combinations, put in order, are the answer that is written;
--- with a cache of this room it tells hits, too, and without one it doesn't
+-- a line tells the counts of a run of a statement, whose combinations, put in order, are the rows of its answer; with a
+-- cache of this room it tells hits, too, and without one it doesn't
 pub record IsTally {room : ℕ} (gives : ℕ → Value → Value → Truth) (number : ℕ) (item : Item) (line : List ℕ)
     : Type 0 where
   pub combos : List Combo

@@ -7,6 +7,7 @@ mod counting;
 mod engine;
 mod finding;
 mod settings;
+mod shaping;
 mod stopping;
 mod tallying;
 

@@ -55,6 +55,8 @@ bind_text (bind.WrongArguments at) = codes "wrong arguments"
 bind_text (bind.TooManyAliases at) = codes "aliases"
 bind_text (bind.TooManyConjuncts at) = codes "conjuncts"
 bind_text (bind.TooManyTerms at) = codes "terms"
+bind_text (bind.NotGrouped at) = codes "not grouped"
+bind_text (bind.NotSelected at) = codes "not selected"
 bind_text (bind.Unreachable alias) = codes "unreachable"
 bind_text bind.Memory = codes "memory"
 

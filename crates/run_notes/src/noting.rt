@@ -87,6 +87,8 @@ fn bind_text(fault: BindFault) -> &'static str
         BindFault::TooManyAliases { at: _ } => "aliases",
         BindFault::TooManyConjuncts { at: _ } => "conjuncts",
         BindFault::TooManyTerms { at: _ } => "terms",
+        BindFault::NotGrouped { at: _ } => "not grouped",
+        BindFault::NotSelected { at: _ } => "not selected",
         BindFault::Unreachable { alias: _ } => "unreachable",
         BindFault::Memory => "memory",
     }
@@ -106,7 +108,9 @@ fn bind_place(fault: BindFault) -> u32
         | BindFault::WrongArguments { at }
         | BindFault::TooManyAliases { at }
         | BindFault::TooManyConjuncts { at }
-        | BindFault::TooManyTerms { at } => at,
+        | BindFault::TooManyTerms { at }
+        | BindFault::NotGrouped { at }
+        | BindFault::NotSelected { at } => at,
         BindFault::Unreachable { alias } => u32::from(alias),
         BindFault::Memory => 0,
     }

@@ -33,7 +33,17 @@ bind_sort (bind.TooManyAliases at) = PastLimit
 bind_sort (bind.TooManyConjuncts at) = PastLimit
 bind_sort (bind.TooManyTerms at) = PastLimit
 bind_sort bind.Memory = NoMemory
-bind_sort _ = Plain
+bind_sort (bind.UnknownTable at) = Plain
+bind_sort (bind.RepeatedAlias at) = Plain
+bind_sort (bind.UnknownAlias at) = Plain
+bind_sort (bind.UnknownColumn at) = Plain
+bind_sort (bind.AmbiguousColumn at) = Plain
+bind_sort (bind.TypeMismatch at) = Plain
+bind_sort (bind.UnknownFunction at) = Plain
+bind_sort (bind.WrongArguments at) = Plain
+bind_sort (bind.NotGrouped at) = Plain
+bind_sort (bind.NotSelected at) = Plain
+bind_sort (bind.Unreachable alias) = Plain
 
 -- the status of a fault of a sort: one that names it, one that names its limit, or want of memory
 abbrev pub by_sort : Sort → Status → Status → Status

@@ -1,10 +1,13 @@
 -- What a script over its tables, or the demo, must be prepared to: a plan, or the first refusal.
-use Rattle.std.specs.Prelude.{◌≡◌, ◌<◌, ℕ, ◌+◌, ◌%◌, List, [], ◌∷◌, length, take, Option, Result, Ok, Err, IsOk, ⊤}
+use Rattle.std.specs.Prelude.{◌≡◌, ◌<◌, ℕ, ◌+◌, ◌%◌, true, false, List, [], ◌∷◌, length, take, Option, Some, None, Result, Ok, Err, IsOk, ⊤}
 use Rattle.sq_value.specs.declared.value.Value.{Value}
 use Rattle.sq_value.specs.declared.value.Truth.{Truth}
 use Rattle.sq_value.specs.declared.predicate.Kinds.{Kinds}
+use Rattle.sq_expr.specs.declared.block.Block.{Block}
+use Rattle.sq_expr.specs.declared.shape.Shape.{Shape}
 use Rattle.outside.specs.Files.{File}
 use Rattle.sq_parse.specs.Fault.{ReadsAs}
+use Rattle.sq_parse.specs.Shaped.{is_shaped}
 use Rattle.sq_parse.specs.declared.parser.ParseFault.{ParseFault}
 use Rattle.sq_parse.specs.declared.tree.Script.{Script}
 use Rattle.sq_parse.specs.declared.tree.Statement.{Statement}
@@ -45,9 +48,15 @@ IsSpelled text due = (read : Result Script ParseFault) × ReadsAs text read × (
 abbrev pub IsScript : List File → List ℕ → Result Script Status → Type 0
 IsScript files name due = AndThen (ComesTo (file_read file.Script files name)) IsSpelled due
 
+-- a statement is bound to a block; one with groups, DISTINCT or LIMIT to a block and a shape
+abbrev pub IsBoundAs : Scope → Statement → Block → Option Shape → Type 0
+IsBoundAs scope s block None = (is_shaped s ≡ false) × binding.IsBound scope s block
+IsBoundAs scope s block (Some shape) =
+    (is_shaped s ≡ true) × binding.IsBoundShape scope s record { block = block; shape = shape }
+
 -- what a statement is bound to, or its fault; statements count from 1
 abbrev pub IsBoundTo : Scope → ℕ → Statement → Result Bound Status → Type 0
-IsBoundTo scope number s (Ok bound) = binding.IsBound scope s bound.block
+IsBoundTo scope number s (Ok bound) = IsBoundAs scope s bound.block bound.shape
 IsBoundTo scope number s (Err refusal) =
     (f : BindFault) × binding.IsBindFault scope s f × (refusal ≡ bind_status number f)
 

@@ -1,9 +1,10 @@
 //! From what the words ask for to the plan of a run: the script is parsed, the tables are read, the
 //! accesses' columns are found, and all statements are bound.
 
-ghost use Rattle.std.specs.Prelude.{◌≡◌, ◌<◌, ◌≤◌, ◌+◌, Ok, Err, IfOk, IfErr, All, length};
+ghost use Rattle.std.specs.Prelude.{◌≡◌, ◌<◌, ◌≤◌, ◌+◌, true, Ok, Err, IfOk, IfErr, All, length};
 ghost use Rattle.command_line.specs.Within.{IsAccess, IsQuery};
 ghost use Rattle.sq_bind.specs.Condition.{calling};
+ghost use Rattle.sq_parse.specs.Shaped as shapes;
 ghost use Rattle.sq_bind.specs.Given.{IsParsed, AreAccesses, over};
 ghost use Rattle.run_base.specs.Runnable.{IsRunnable};
 ghost use Rattle.run_plan.specs.Doing.{Went, Stopped, Refuses, IsParsedScript};
@@ -21,9 +22,9 @@ use catalogue::Catalogue;
 use command_line::{AccessWord, Query};
 use outside::Folder;
 use run_base::Bound;
-use sq_bind::bind;
+use sq_bind::{bind, bind_shape};
 use sq_expr::Access;
-use sq_parse::{Script, Statement, parse};
+use sq_parse::{Script, Statement, is_shaped, parse};
 use sq_value::Predicates;
 use sqlite_items::Items;
 use std::alloc::Global;
@@ -60,6 +61,34 @@ fn read_script<F: Folder>(alloc: Global, folder: &mut F, name: &str) -> Result<S
     parse_script(alloc, text.as_slice())
 }
 
+// The statement with this number, which counts from 1 and has groups, DISTINCT or LIMIT, bound.
+fn bind_shaped<P: Predicates>(
+    alloc: Global,
+    number: u32,
+    statement: &Statement,
+    catalogue: &Catalogue,
+    accesses: &[Access],
+    functions: &P,
+) -> Result<Bound, Status>
+    requires parsed { IsParsed statement.now }
+    requires shaped { shapes.is_shaped statement.now ≡ true }
+    requires reached { AreAccesses catalogue.now.tables accesses.now }
+    ensures ok { let calls = calling (P.number_of functions.now) (P.kinds_of functions.now) in
+        IfOk result (λ bound. spec.IsBoundTo (over catalogue.now accesses.now calls) number statement.now (Ok bound)) }
+    ensures runs { IfOk result (IsRunnable (P.kinds_of functions.now) catalogue.now.tables) }
+    ensures refused { let calls = calling (P.number_of functions.now) (P.kinds_of functions.now) in
+        IfErr result (λ s.
+        Refuses (spec.IsBoundTo (over catalogue.now accesses.now calls) number statement.now (Err s)) s) }
+{
+    match bind_shape(alloc, statement, catalogue, accesses, functions) {
+        Ok(shaped) => Ok(Bound {
+            block: shaped.block,
+            shape: Some(shaped.shape),
+        }),
+        Err(fault) => Err(bind_status(number, fault)),
+    }
+}
+
 // The statement with this number, which counts from 1, bound.
 fn bind_one<P: Predicates>(
     alloc: Global,
@@ -78,8 +107,11 @@ fn bind_one<P: Predicates>(
         IfErr result (λ s.
         Refuses (spec.IsBoundTo (over catalogue.now accesses.now calls) number statement.now (Err s)) s) }
 {
+    if is_shaped(statement) {
+        return bind_shaped(alloc, number, statement, catalogue, accesses, functions);
+    }
     match bind(alloc, statement, catalogue, accesses, functions) {
-        Ok(block) => Ok(Bound { block }),
+        Ok(block) => Ok(Bound { block, shape: None }),
         Err(fault) => Err(bind_status(number, fault)),
     }
 }

@@ -26,6 +26,7 @@ n | x/1/2/3/\n\
 t | x/1/1/\n\
 e | x:int/\n\
 m | x/9223372036854775807/\n\
+huge | x/9223372036854775807/9223372036854775807/\n\
 short | x,y/1/\n\
 letters | x:int/1/a/\n\
 bytes | x/1/~/\n\
@@ -347,7 +348,7 @@ fn told<R: Threads + Wait + Sync>(rt: &R, alloc: Global, case: Case<'_>) -> Resu
 
 #[test]
 fn runs_end_as_they_must(rt: HostRuntime) -> Result<(), Fail> {
-    for cases in [DONE, TALLIED, REFUSED, LOOKED_UP, DEMO] {
+    for cases in [DONE, TALLIED, REFUSED, LOOKED_UP, DEMO, shaped::SHAPED] {
         for line in cases.lines() {
             if !told(&rt, rt.alloc(), case_of(line))? {
                 assert_eq!(rt; line, "");
@@ -463,4 +464,5 @@ fn sure_folder_and_sink(rt: HostRuntime) -> Result<(), Fail> {
 }
 
 mod limits;
+mod shaped;
 mod workers;

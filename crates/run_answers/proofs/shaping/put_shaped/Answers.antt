@@ -1,0 +1,15 @@
+use Rattle.run_base.specs.Items.{item_over}
+use Rattle.run_answers.specs.Tally.{IsTally}
+use Rattle.run_answers.proofs.AnswerLemmas.{shaped_text-some}
+use Rattle.run_answers.proofs.TallyLemmas.{one_made, one_unfound}
+use Rattle.run_answers.proofs.shaping.put_shaped.Goals as goal
+
+pub returns-in-Ok : goal.returns-in-Ok
+returns-in-Ok g c =
+    one_made c.args.engine.now.settings.now.tally g.P.Predicates.gives c.args.number (item_over c.args.tables.now c.args.bound.now) c.args.shape.now _ _ _ _
+    c.put_reported.result c.in-Ok.ensures.lines c.in-Ok.ensures.line c.put_reported.ensures
+
+pub returns-in-Err : goal.returns-in-Err
+returns-in-Err g c =
+    one_unfound c.args.engine.now.settings.now.tally (IsTally {room = c.args.engine.now.settings.now.cache} g.P.Predicates.gives) c.args.number (item_over c.args.tables.now c.args.bound.now) _ _
+    (shaped_text-some g.P.Predicates.gives (item_over c.args.tables.now c.args.bound.now) c.args.shape.now)
