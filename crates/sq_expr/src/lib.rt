@@ -13,4 +13,5 @@ mod sum;
 
 pub use block::{Access, AliasUse, Block, Conjunct, OrderKey, OutCol};
 pub use cond::{Arg, Chosen, ColumnOf, Cond, Side, Term};
+pub use operand::argument;
 pub use shape::{AggKind, Cell, Shape, ShapeOrder, SortOn};

@@ -96,7 +96,8 @@ pub fn compare_sides(left: &Side, cmp: Cmp, right: &Side, rows: &Chosen<'_>) -> 
     }
 }
 
-// What an argument of a predicate stands for, in the chosen rows.
+/// What an argument of a predicate stands for, in the chosen rows: a literal, or the value of a column that
+/// has a row among them.
 pub fn argument<'t>(arg: &'t Arg, rows: &Chosen<'t>) -> &'t Value
     requires { (k : ColType) × FitsArg (IsSeen rows.now.tables.now rows.now.uses rows.now.rows) k arg.now }
     ensures value { result.now ≡ arg_value (value_in rows.now.tables.now rows.now.uses rows.now.rows) arg.now }
