@@ -245,7 +245,7 @@ pub fn bind<F: Predicates>(
 /// - `TypeMismatch` at a TEXT column that is summed;
 /// - `NotGrouped` at a column of the select list or of ORDER BY that is none of GROUP BY, where the statement
 ///   is grouped; for `*` at the first table's name, for `name.*` at the name. A name of ORDER BY that is a
-///   cell's is right;
+///   cell's is right. A column of GROUP BY with a fault groups nothing;
 /// - `NotSelected` at a column of ORDER BY that no cell shows, where the statement has DISTINCT. There
 ///   `NotGrouped` isn't told.
 pub fn bind_shape<F: Predicates>(

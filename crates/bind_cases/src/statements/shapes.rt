@@ -37,6 +37,7 @@ NotGrouped 7 | SELECT name, SUM(name) FROM cust\n\
 TypeMismatch 11 | SELECT SUM(name), name FROM cust\n\
 UnknownColumn 7 | SELECT z FROM ord GROUP BY cid\n\
 NotGrouped 7 | SELECT cid FROM ord GROUP BY z\n\
+UnknownColumn 34 | SELECT cid FROM ord GROUP BY cid, z\n\
 UnknownColumn 34 | SELECT COUNT(*) FROM ord GROUP BY z\n\
 UnknownColumn 13 | SELECT COUNT(z) FROM ord\n\
 UnknownColumn 11 | SELECT SUM(z) FROM ord\n\
