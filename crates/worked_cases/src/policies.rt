@@ -1,7 +1,7 @@
 //! Choices that were worked out apart, by a program that draws its numbers as O'Neill (2014)
 //! published them, and each call once.
 
-ghost use Rattle.std.specs.Prelude.{◌≡◌, length};
+ghost use Rattle.std.specs.Prelude.{◌≡◌, ◌<◌, length};
 ghost use Rattle.tuple_span.specs.declared.route.Via.TheVariants as via;
 ghost use Rattle.tuple_span.specs.declared.route.Route.TheVariants as route;
 ghost use Rattle.route_policy.specs.Routes.{AreChoices};
