@@ -40,27 +40,27 @@ use Rattle.eddyql.proofs.StageLemmas.{Done-only}
 
 -- how the answers of a plan ended
 pub plan_done : {room : ℕ} (tally : Bool) (gives : ℕ → Value → Value → Truth) (items : List Item) (text : List Item → List ℕ)
-    (old new : Outputs) (r : Result (Unit {0}) Stop) (x : Unit {0}) → r ≡ Ok x → Answers tally (IsTally {room = room} gives) 1 items text old new r
+    (old new : Outputs) (r : Result (Unit {0}) Stop) (x : Unit {0}) → r ≡ Ok x → Answers tally (IsTally room gives) 1 items text old new r
     → AnsweredBy tally old new (text items) (end.By status.Done)
-    × Tallied tally (IsTally {room = room} gives) 1 items text old new (stop_of (end.By status.Done))
+    × Tallied tally (IsTally room gives) 1 items text old new (stop_of (end.By status.Done))
 plan_done {room} tally gives items text old new r x e a =
-    let b : Answers tally (IsTally {room = room} gives) 1 items text old new (Ok tt) =
-    subst (λ (q : Result (Unit {0}) Stop). Answers tally (IsTally {room = room} gives) 1 items text old new q) e a in
+    let b : Answers tally (IsTally room gives) 1 items text old new (Ok tt) =
+    subst (λ (q : Result (Unit {0}) Stop). Answers tally (IsTally room gives) 1 items text old new q) e a in
     (answered_done tally old new (text items) b.out, b.notes)
 
 pub plan_stopped : {room : ℕ} (tally : Bool) (gives : ℕ → Value → Value → Truth) (items : List Item) (text : List Item → List ℕ)
-    (old new : Outputs) (r : Result (Unit {0}) Stop) (y : Stop) → r ≡ Err y → Answers tally (IsTally {room = room} gives) 1 items text old new r
+    (old new : Outputs) (r : Result (Unit {0}) Stop) (y : Stop) → r ≡ Err y → Answers tally (IsTally room gives) 1 items text old new r
     → AnsweredBy tally old new (text items) (end_at y)
-    × Tallied tally (IsTally {room = room} gives) 1 items text old new (stop_of (end_at y))
+    × Tallied tally (IsTally room gives) 1 items text old new (stop_of (end_at y))
 plan_stopped {room} tally gives items text old new r y e a =
-    by y (subst (λ (q : Result (Unit {0}) Stop). Answers tally (IsTally {room = room} gives) 1 items text old new q) e a)
+    by y (subst (λ (q : Result (Unit {0}) Stop). Answers tally (IsTally room gives) 1 items text old new q) e a)
   where
-    by : (y : Stop) → Answers tally (IsTally {room = room} gives) 1 items text old new (Err y)
+    by : (y : Stop) → Answers tally (IsTally room gives) 1 items text old new (Err y)
         → AnsweredBy tally old new (text items) (end_at y)
-        × Tallied tally (IsTally {room = room} gives) 1 items text old new (stop_of (end_at y))
+        × Tallied tally (IsTally room gives) 1 items text old new (stop_of (end_at y))
     by stop.Output b = (
       answered_write tally old new (text items) b.out,
-      tallied_output tally (IsTally {room = room} gives) 1 items text old new b.notes,
+      tallied_output tally (IsTally room gives) 1 items text old new b.notes,
     )
     by stop.Notes b = (answered_notes tally old new (text items) b.out b.notes.end'.1 b.notes.end'.0.rose, b.notes)
     by stop.Memory b = (answered_memory tally old new (text items) b.out, b.notes)
@@ -68,7 +68,7 @@ plan_stopped {room} tally gives items text old new r y e a =
 -- the lines of a plan that was run
 pub lines_answered : (p : Predicates) (words : List (List ℕ)) (a : Request) (plan : Plan) (old new : Folder) (before now : Outputs) (e : End)
     → asked words ≡ Some a → Went old new (λ files. IsRequested p a files (Ok plan))
-    → Tallied a.settings.tally (IsTally {room = a.settings.cache} p.gives) 1 (items_of plan) (task_text a.task p.gives) before now (stop_of e)
+    → Tallied a.settings.tally (IsTally a.settings.cache p.gives) 1 (items_of plan) (task_text a.task p.gives) before now (stop_of e)
     → NotedLines p words old.holds before now e
 lines_answered p words a plan old new before now e is w h =
     record { end' = by (stop_of e) h.end'; quiet = λ q. h.quiet (sym tally ∙ q) }
@@ -91,7 +91,7 @@ lines_answered p words a plan old new before now e is w h =
     progress k = record { of = of; finished = h.finished; left = h.left; split = h.split; are = h.are; took = k.took }
 
     by : (r : Result (Unit {0}) Stop)
-        → EndsSo a.settings.tally (IsTally {room = a.settings.cache} p.gives) 1 text h.finished h.left h.lines before now r
+        → EndsSo a.settings.tally (IsTally a.settings.cache p.gives) 1 text h.finished h.left h.lines before now r
         → LinedBy p words old.holds before now r
     by (Ok x) k = (h.lines, (progress k.0, k.1), k.0.put, k.2)
     by (Err stop.Notes) k = record {

@@ -33,7 +33,7 @@ text_in {p = p} r = task_text r.request.task p.gives
 abbrev pub AreLinesIn : {p : Predicates} {words : List (List ℕ)} {holds : Option (List File)} → RunOf p words holds
     → List Item → List ℕ → Type 0
 AreLinesIn {p = p} r items lines =
-    AreLines r.request.settings.tally (IsTally {room = r.request.settings.cache} p.gives) 1 items lines
+    AreLines r.request.settings.tally (IsTally r.request.settings.cache p.gives) 1 items lines
 
 -- a run came so far: the first of its statements are finished, by what the output took, and these are their lines
 pub record Progress (p : Predicates) (words : List (List ℕ)) (holds : Option (List File)) (before now : Sink)
@@ -67,7 +67,7 @@ pub record IsCutOff (p : Predicates) (words : List (List ℕ)) (holds : Option (
   pub lines : List ℕ
   pub are : AreLinesIn of finished lines
   pub line : List ℕ
-  pub right : IsTally {room = of.request.settings.cache} p.gives (1 + length finished) next line
+  pub right : IsTally of.request.settings.cache p.gives (1 + length finished) next line
   pub wanted : of.request.settings.tally ≡ true
   pub front : AddsFrontBehind old.notes.written new.notes.written lines line
   pub rose : RoseOrFull old.notes.faults new.notes.faults

@@ -57,7 +57,7 @@ fn put_task<O: Sink, N: Sink, P: Predicates + Sync, G: Gate, R: Threads + Wait +
         plan.now.statements }
     requires settings { AreSettings engine.now.settings.now }
     ensures { Answers engine.now.settings.now.tally
-        (IsTally {room = engine.now.settings.now.cache} P.gives) 1 (items_of plan.now)
+        (IsTally engine.now.settings.now.cache P.gives) 1 (items_of plan.now)
         (task_text task.now P.gives) outputs.old outputs.new result }
 {
     let statements = plan.statements.as_slice();
@@ -81,7 +81,7 @@ fn run_plan<O: Sink, N: Sink, P: Predicates + Sync, G: Gate, R: Threads + Wait +
     ensures out { AnsweredBy engine.now.settings.now.tally outputs.old outputs.new
         (task_text task.now P.gives (items_of plan.now)) result }
     ensures notes { Tallied engine.now.settings.now.tally
-        (IsTally {room = engine.now.settings.now.cache} P.gives) 1 (items_of plan.now)
+        (IsTally engine.now.settings.now.cache P.gives) 1 (items_of plan.now)
         (task_text task.now P.gives) outputs.old outputs.new (stop_of result) }
 {
     match put_task(engine, task, plan, outputs) {

@@ -44,7 +44,7 @@ Gives = ℕ → Value → Value → Truth
 pub line_right : {room : ℕ} (gives : Gives) (number : ℕ) (item : Item) (combos : List Combo) (log seen : List Built) (looked : List LookedUp)
     (hops hits : ℕ) (line : List ℕ) → IsRecorded gives item.bound.block item.tables combos log (map as_mark looked) hops → seen ≡ log
     → line ≡ line_of_counts number (length item.bound.block.aliases) seen hops (length looked) (hits_told room hits)
-    → IsLineFor true (IsTally {room = room} gives) number item (Some line)
+    → IsLineFor true (IsTally room gives) number item (Some line)
 line_right {room} gives number item combos log seen looked hops hits line h same e = record {
   right = record {
     combos = combos;
@@ -60,7 +60,7 @@ line_right {room} gives number item combos log seen looked hops hits line h same
   none = λ q. absurd cc;
 }
 
-pub line_none : {room : ℕ} (gives : Gives) (number : ℕ) (item : Item) → IsLineFor false (IsTally {room = room} gives) number item None
+pub line_none : {room : ℕ} (gives : Gives) (number : ℕ) (item : Item) → IsLineFor false (IsTally room gives) number item None
 line_none {room} gives number item = record { right = refl; none = λ q. refl }
 
 -- ---- one statement
@@ -137,28 +137,28 @@ one_put tally IsRight number block text other line old new r e right h =
 
 -- the same of the rows of the answer
 pub one_found : {room : ℕ} (tally : Bool) (gives : Gives) (number : ℕ) (item : Item) (rows : List (List ℕ)) (line : Option (List ℕ))
-    (old new : Outputs) (r : Result (Unit {0}) Stop) → rows ≡ answer_rows gives item → IsLineFor tally (IsTally {room = room} gives) number item line
+    (old new : Outputs) (r : Result (Unit {0}) Stop) → rows ≡ answer_rows gives item → IsLineFor tally (IsTally room gives) number item line
     → PutBoth (answer_text item.bound.block item.tables rows) line old new r
-    → AnswersOne tally (IsTally {room = room} gives) number item (plain_text gives item) old new r
+    → AnswersOne tally (IsTally room gives) number item (plain_text gives item) old new r
 one_found {room} tally gives number item rows line old new r e right h =
-    one_put tally (IsTally {room = room} gives) number item (answer_text item.bound.block item.tables rows) (plain_text gives item) line old new r
+    one_put tally (IsTally room gives) number item (answer_text item.bound.block item.tables rows) (plain_text gives item) line old new r
     (ap (λ (x : List (List ℕ)). answer_text item.bound.block item.tables x) e) right h
 
 -- the same of the lines of a shape
 pub one_made : {room : ℕ} (tally : Bool) (gives : Gives) (number : ℕ) (item : Item) (shape : Shape) (lines : List (List Out)) (line : Option (List ℕ))
-    (old new : Outputs) (r : Result (Unit {0}) Stop) → lines ≡ answer_lines gives item shape → IsLineFor tally (IsTally {room = room} gives) number item line
+    (old new : Outputs) (r : Result (Unit {0}) Stop) → lines ≡ answer_lines gives item shape → IsLineFor tally (IsTally room gives) number item line
     → PutBoth (lines_text shape lines) line old new r
-    → AnswersOne tally (IsTally {room = room} gives) number item (shaped_text gives item shape) old new r
+    → AnswersOne tally (IsTally room gives) number item (shaped_text gives item shape) old new r
 one_made {room} tally gives number item shape lines line old new r e right h =
-    one_put tally (IsTally {room = room} gives) number item (lines_text shape lines) (shaped_text gives item shape) line old new r
+    one_put tally (IsTally room gives) number item (lines_text shape lines) (shaped_text gives item shape) line old new r
     (ap (lines_text shape) e) right h
 
 -- the text of an answer is that of its shape
 pub one_by : {room : ℕ} (tally : Bool) (gives : Gives) (number : ℕ) (item : Item) (shape : Option Shape) (old new : Outputs) (r : Result (Unit {0}) Stop)
-    → item.bound.shape ≡ shape → AnswersOne tally (IsTally {room = room} gives) number item (text_by gives item shape) old new r
-    → AnswersOne tally (IsTally {room = room} gives) number item (item_text gives item) old new r
+    → item.bound.shape ≡ shape → AnswersOne tally (IsTally room gives) number item (text_by gives item shape) old new r
+    → AnswersOne tally (IsTally room gives) number item (item_text gives item) old new r
 one_by {room} tally gives number item shape old new r e h =
-    subst (λ (s : Option Shape). AnswersOne tally (IsTally {room = room} gives) number item (text_by gives item s) old new r) (sym e) h
+    subst (λ (s : Option Shape). AnswersOne tally (IsTally room gives) number item (text_by gives item s) old new r) (sym e) h
 
 -- want of memory, before anything of a text was put
 pub one_unfound : {A : Type 0} (tally : Bool) (IsRight : ℕ → A → List ℕ → Type 0) (number : ℕ) (item : A) (text : List ℕ) (old : Outputs) → text ≢ []

@@ -30,35 +30,35 @@ unfolding text_of
 text_of-behind gives b zs = refl
 
 pub answers_none : {room : ℕ} (tally : Bool) (gives : Gives) (items : List Item) (old : Outputs) → length items ≡ 0
-    → Answers tally (IsTally {room = room} gives) 1 items (text_of gives) old old (Ok tt)
+    → Answers tally (IsTally room gives) 1 items (text_of gives) old old (Ok tt)
 unfolding text_of
-answers_none {room} tally gives [] old e = answers_nothing tally (IsTally {room = room} gives) 1 (text_of gives) old refl
+answers_none {room} tally gives [] old e = answers_nothing tally (IsTally room gives) 1 (text_of gives) old refl
 answers_none {room} tally gives (b ∷ bs) old e = absurd (omega (arith, e))
 
 -- the first statement, and those behind it
 pub answers_all : {room : ℕ} (tally : Bool) (gives : Gives) (items : List Item) (b : Item) (bs : List Item)
     (old mid new : Outputs) (q r : Result (Unit {0}) Stop) → items ≡ b ∷ bs → q ≡ Ok tt
-    → AnswersOne tally (IsTally {room = room} gives) 1 b (item_text gives b) old mid q
-    → Answers tally (IsTally {room = room} gives) 2 bs (flat_map (behind_line gives)) mid new r
-    → Answers tally (IsTally {room = room} gives) 1 items (text_of gives) old new r
+    → AnswersOne tally (IsTally room gives) 1 b (item_text gives b) old mid q
+    → Answers tally (IsTally room gives) 2 bs (flat_map (behind_line gives)) mid new r
+    → Answers tally (IsTally room gives) 1 items (text_of gives) old new r
 answers_all {room} tally gives items b bs old mid new q r e ok first more =
     let number : 2 ≡ 1 + length (b ∷ []) = omega arith in
-    let given : AnswersOne tally (IsTally {room = room} gives) 1 b (item_text gives b) old mid (Ok tt) =
-    subst (λ (x : Result (Unit {0}) Stop). AnswersOne tally (IsTally {room = room} gives) 1 b (item_text gives b) old mid x) ok first in
-    answers_of tally (IsTally {room = room} gives) 1 (b ∷ bs) items (text_of gives) old new r (sym e)
-    (answers_after tally (IsTally {room = room} gives) 1 (b ∷ []) bs (text_of gives) (text_of gives) (flat_map (behind_line gives))
+    let given : AnswersOne tally (IsTally room gives) 1 b (item_text gives b) old mid (Ok tt) =
+    subst (λ (x : Result (Unit {0}) Stop). AnswersOne tally (IsTally room gives) 1 b (item_text gives b) old mid x) ok first in
+    answers_of tally (IsTally room gives) 1 (b ∷ bs) items (text_of gives) old new r (sym e)
+    (answers_after tally (IsTally room gives) 1 (b ∷ []) bs (text_of gives) (text_of gives) (flat_map (behind_line gives))
     old mid new r
     (λ zs. text_of-behind gives b zs ∙ ap (λ (z : List ℕ). z ++ flat_map (behind_line gives) zs) (sym (text_of-first gives b))) refl
-    (answers_single tally (IsTally {room = room} gives) 1 b (text_of gives) (item_text gives b) old mid (text_of-first gives b) given)
-    (subst (λ (n : ℕ). Answers tally (IsTally {room = room} gives) n bs (flat_map (behind_line gives)) mid new r) number more))
+    (answers_single tally (IsTally room gives) 1 b (text_of gives) (item_text gives b) old mid (text_of-first gives b) given)
+    (subst (λ (n : ℕ). Answers tally (IsTally room gives) n bs (flat_map (behind_line gives)) mid new r) number more))
 
 pub answers_first : {room : ℕ} (tally : Bool) (gives : Gives) (items : List Item) (b : Item) (bs : List Item)
     (old new : Outputs) (q : Result (Unit {0}) Stop) (y : Stop) → items ≡ b ∷ bs → q ≡ Err y
-    → AnswersOne tally (IsTally {room = room} gives) 1 b (item_text gives b) old new q
-    → Answers tally (IsTally {room = room} gives) 1 items (text_of gives) old new (Err y)
+    → AnswersOne tally (IsTally room gives) 1 b (item_text gives b) old new q
+    → Answers tally (IsTally room gives) 1 items (text_of gives) old new (Err y)
 answers_first {room} tally gives items b bs old new q y e stopped first =
-    let given : AnswersOne tally (IsTally {room = room} gives) 1 b (item_text gives b) old new (Err y) =
-    subst (λ (x : Result (Unit {0}) Stop). AnswersOne tally (IsTally {room = room} gives) 1 b (item_text gives b) old new x) stopped first in
-    answers_of tally (IsTally {room = room} gives) 1 (b ∷ bs) items (text_of gives) old new (Err y) (sym e)
-    (answers_halted tally (IsTally {room = room} gives) 1 b bs (text_of gives) (item_text gives b) (flat_map (behind_line gives) bs)
+    let given : AnswersOne tally (IsTally room gives) 1 b (item_text gives b) old new (Err y) =
+    subst (λ (x : Result (Unit {0}) Stop). AnswersOne tally (IsTally room gives) 1 b (item_text gives b) old new x) stopped first in
+    answers_of tally (IsTally room gives) 1 (b ∷ bs) items (text_of gives) old new (Err y) (sym e)
+    (answers_halted tally (IsTally room gives) 1 b bs (text_of gives) (item_text gives b) (flat_map (behind_line gives) bs)
     old new y (text_of-first gives b) (text_of-behind gives b bs) given)

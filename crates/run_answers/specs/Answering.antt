@@ -88,10 +88,10 @@ pub record IsLineFor {A : Type 0} (tally : Bool) (IsRight : ℕ → A → List �
   pub none : tally ≡ false → line ≡ None
 
 -- what was found for a statement: its matches in some order, and its line
-pub record IsFound {room : ℕ} (tally : Bool) (gives : ℕ → Value → Value → Truth) (number : ℕ) (item : Item) (f : Found)
+pub record IsFound (room : ℕ) (tally : Bool) (gives : ℕ → Value → Value → Truth) (number : ℕ) (item : Item) (f : Found)
     : Type 0 where
   pub bag : IsBagOf gives item.bound.block item.tables f.combos.items
-  pub line : IsLineFor tally (IsTally {room = room} gives) number item (option_map string_bytes f.line)
+  pub line : IsLineFor tally (IsTally room gives) number item (option_map string_bytes f.line)
 
 -- a line was put, or a front of it, or nothing
 abbrev pub Lined : Option (List ℕ) → Sink → Sink → Result (Unit {0}) Stop → Type 0

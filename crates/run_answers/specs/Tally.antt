@@ -47,7 +47,7 @@ line_of_counts number aliases log hops looked hits =
 
 -- a line tells the counts of a run of a statement, whose combinations, put in order, are the rows of its answer; with a
 -- cache of this room it tells hits, too, and without one it doesn't
-pub record IsTally {room : ℕ} (gives : ℕ → Value → Value → Truth) (number : ℕ) (item : Item) (line : List ℕ)
+pub record IsTally (room : ℕ) (gives : ℕ → Value → Value → Truth) (number : ℕ) (item : Item) (line : List ℕ)
     : Type 0 where
   pub combos : List Combo
   pub log : List Built

@@ -47,7 +47,7 @@ fn lines_found<P: Predicates + Sync, G: Gate, R: Threads + Wait + Sync>(
     ensures lines { IfOk result (λ made. map (λ (line : TheLine). line.cells) made.lines.items
         ≡ answer_lines P.gives (item_over tables.now bound.now) shape.now) }
     ensures line { IfOk result (λ made. IsLineFor engine.now.settings.now.tally
-        (IsTally {room = engine.now.settings.now.cache} P.gives) number (item_over tables.now bound.now)
+        (IsTally engine.now.settings.now.cache P.gives) number (item_over tables.now bound.now)
         (option_map string_bytes made.line)) }
 {
     let found = found_of(engine, number, bound, tables)?;
@@ -91,7 +91,7 @@ pub fn put_shaped<O: Sink, N: Sink, P: Predicates + Sync, G: Gate, R: Threads + 
     requires runs { IsRunnable (P.kinds_of engine.now.functions.now) tables.now bound.now }
     requires shaped { IsShapeFor tables.now bound.now.block shape.now }
     requires settings { AreSettings engine.now.settings.now }
-    ensures { AnswersOne engine.now.settings.now.tally (IsTally {room = engine.now.settings.now.cache} P.gives) number
+    ensures { AnswersOne engine.now.settings.now.tally (IsTally engine.now.settings.now.cache P.gives) number
         (item_over tables.now bound.now) (shaped_text P.gives (item_over tables.now bound.now) shape.now)
         outputs.old outputs.new result }
 {

@@ -27,7 +27,7 @@ put_more-requires-clause-run g c κs within =
 
 pub returns-in_err-put_answer : goal.returns-in_err-put_answer
 returns-in_err-put_answer g c =
-    answers_through c.args.engine.now.settings.now.tally (IsTally {room = c.args.engine.now.settings.now.cache} g.P.Predicates.gives) 1 (items_over c.args.tables.now c.args.bounds.now) _ _ _
+    answers_through c.args.engine.now.settings.now.tally (IsTally c.args.engine.now.settings.now.cache g.P.Predicates.gives) 1 (items_over c.args.tables.now c.args.bounds.now) _ _ _
     c.from_residual.result c.in_err-put_answer.field-0.0 c.from_residual.ensures.1
     (answers_first c.args.engine.now.settings.now.tally g.P.Predicates.gives (items_over c.args.tables.now c.args.bounds.now)
     (item_over c.args.tables.now c.in-Some.first.now) (items_over c.args.tables.now c.in-Some.more.now) _ _ c.put_answer.result

@@ -8,5 +8,5 @@ use Rattle.run_answers.proofs.answering.put_more.Given as goal
 
 abbrev pub invariant-loop-index : goal.invariant-loop-index
 invariant-loop-index g l =
-    Answers l.engine.settings.now.tally (IsTally {room = l.engine.settings.now.cache} g.P.Predicates.gives) 2 (take l.index (items_over l.tables l.bounds)) (flat_map (behind_line g.P.Predicates.gives))
+    Answers l.engine.settings.now.tally (IsTally l.engine.settings.now.cache g.P.Predicates.gives) 2 (take l.index (items_over l.tables l.bounds)) (flat_map (behind_line g.P.Predicates.gives))
     l.initial.outputs l.outputs (Ok tt)

@@ -11,5 +11,5 @@ returns-in-Ok g c =
 
 pub returns-in-Err : goal.returns-in-Err
 returns-in-Err g c =
-    one_unfound c.args.engine.now.settings.now.tally (IsTally {room = c.args.engine.now.settings.now.cache} g.P.Predicates.gives) c.args.number (item_over c.args.tables.now c.args.bound.now) _ _
+    one_unfound c.args.engine.now.settings.now.tally (IsTally c.args.engine.now.settings.now.cache g.P.Predicates.gives) c.args.number (item_over c.args.tables.now c.args.bound.now) _ _
     (plain_text-some g.P.Predicates.gives (item_over c.args.tables.now c.args.bound.now))
