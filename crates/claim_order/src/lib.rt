@@ -19,4 +19,4 @@ mod surveying;
 pub use claims::{AnyClaims, Claims, ClaimsInOrder, ClaimsInTurn};
 pub use listing::rows_scanned;
 pub use own::fails_own;
-pub use surveying::{claims_for, survey};
+pub use surveying::{claims_for, order_for, survey};

@@ -8,6 +8,7 @@ use crate::board::Board;
 use crate::kept::Kept;
 use crate::pool::Stamped;
 use crate::seat::Seat;
+use crate::steps::CURSORS;
 
 impl<K: Kept, T: Stamped + Copy> Board<K, T> {
     /// Claims the next row of a cursor. None where it stands at its length or past it, or where this
@@ -36,5 +37,13 @@ impl<K: Kept, T: Stamped + Copy> Board<K, T> {
             seat.dry[at] = true;
             None
         }
+    }
+
+    /// Whether any seat has asked a cursor for a row so far. It is a look that tells no seat anything, so no clause
+    /// says more.
+    pub fn is_begun(&self, cursor: u32) -> bool
+        requires cursor { cursor < length (lengths_of self.now) }
+    {
+        self.table.shared.peek(CURSORS + cursor as usize) != 0
     }
 }

@@ -18,7 +18,7 @@ use crate::view::{
 };
 
 /// The first cursor's word.
-const CURSORS: usize = 8;
+pub(crate) const CURSORS: usize = 8;
 
 /// The turn's word of the first module. The next ones lie each eight words on, so that the words of
 /// one turn lie side by side and apart from those of others.

@@ -6,7 +6,7 @@ ghost use Rattle.sq_expr.specs.Reach.{IsReachable};
 
 use eddy_core::Answered;
 use eddy_worker::{Gate, run_many};
-use route_policy::{AnyPolicy, Lottery, Pressure, RouteScript};
+use route_policy::{AnyPolicy, Greedy, Lottery, Pressure, RouteScript};
 use sq_expr::Block;
 use sq_value::{Predicates, Tables};
 use std::alloc::Global;
@@ -18,7 +18,8 @@ use std::thread::Threads;
 fn policy_of(number: usize) -> AnyPolicy {
     match number {
         0 => AnyPolicy::Lottery(Lottery::new(1)),
-        1 => AnyPolicy::Pressure(Pressure::new()),
+        1 => AnyPolicy::Greedy(Greedy::new()),
+        2 => AnyPolicy::Pressure(Pressure::new()),
         _ => match RouteScript::read("b,a1,v0") {
             Ok(script) => AnyPolicy::Script(script),
             Err(_) => AnyPolicy::Pressure(Pressure::new()),
