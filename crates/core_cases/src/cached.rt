@@ -8,9 +8,9 @@ use crate::compared::is_bag;
 use crate::policies::policy_of;
 use crate::sample::{Case, cut};
 use case_kit::{Counted, block_of_case, catalogue_of_lines};
-use eddy_core::run_one_cached;
+use eddy_core::{CachedAnswer, run_one_cached};
 use sq_expr::Block;
-use sq_value::{Predicates, Tables};
+use sq_value::{Memory, Predicates, Tables};
 use std::alloc::Global;
 use std::test::Fail;
 
@@ -45,27 +45,42 @@ const CASES: &str = "\
 /// What is said of a run that found something else than the bag, or of a text without a block.
 const OTHER: &str = "another bag";
 
-// What is said of a run with a cache of this room.
-fn said_of(
+// A run with a cache of this room.
+fn run_of<'t, F: Predicates>(
     alloc: Global,
-    block: &Block,
-    tables: &Tables,
-    functions: &Counted,
+    block: &'t Block,
+    tables: &'t Tables,
+    functions: &'t F,
     word: &str,
     room: u32,
-) -> Result<String, Fail>
-    requires fits { IsFit (Counted.kinds_of functions.now) tables.now block.now }
+) -> Result<CachedAnswer<'t>, Memory>
+    requires fits { IsFit (F.kinds_of functions.now) tables.now block.now }
     requires reachable { IsReachable block.now }
     requires room { room ≤ 4096 }
 {
     let mut policy = policy_of(word);
-    let cached = run_one_cached(alloc, block, tables, &mut policy, functions, room)?;
-    let called = functions.calls();
-    let (hits, answered) = (cached.hits, cached.answered);
-    let (combos, built) = (answered.combos.as_slice(), answered.built.as_slice());
+    run_one_cached(alloc, block, tables, &mut policy, functions, room)
+}
+
+// What is said of a run that called the predicates so often.
+fn said_of<F: Predicates>(
+    alloc: Global,
+    block: &Block,
+    tables: &Tables,
+    functions: &F,
+    cached: &CachedAnswer<'_>,
+    called: u64,
+) -> Result<String, Fail>
+    requires fits { IsFit (F.kinds_of functions.now) tables.now block.now }
+{
+    let (combos, built) = (
+        cached.answered.combos.as_slice(),
+        cached.answered.built.as_slice(),
+    );
     if !is_bag(alloc, block, tables, functions, combos, built)? {
         return Ok(String::from_str(alloc, OTHER)?);
     }
+    let hits = cached.hits;
     let found = combos.len();
     Ok(format!(in alloc; "{hits} {called} {found}")?)
 }
@@ -77,7 +92,12 @@ fn case_said(alloc: Global, case: &Case<'_>) -> Result<String, Fail> {
     let (word, room) = case.how.split_once(" ").unwrap_or(("", ""));
     let room = room.parse::<u32>().unwrap_or(0).min(4096);
     match block_of_case(alloc, &catalogue, case.ways, case.text, &functions)? {
-        Some(block) => said_of(alloc, &block, catalogue.tables(), &functions, word, room),
+        Some(block) => {
+            let tables = catalogue.tables();
+            let cached = run_of(alloc, &block, tables, &functions, word, room)?;
+            let called = functions.calls();
+            said_of(alloc, &block, tables, &functions, &cached, called)
+        }
         None => Ok(String::from_str(alloc, OTHER)?),
     }
 }

@@ -43,31 +43,33 @@ fn tables_of(alloc: Global) -> Result<Catalogue, Fail> {
     Ok(catalogue_of_lines(alloc, lines.as_str())?)
 }
 
-// What is said of a run by so many workers. Where `any`, not how often a condition was tested.
-fn said_of<R: Threads + Wait + Sync>(
+// How many combinations a run by so many workers found, and its hits.
+fn found_by<F: Predicates + Sync, R: Threads + Wait + Sync>(
     rt: &R,
     alloc: Global,
     block: &Block,
     tables: &Tables,
-    functions: &Counted,
+    functions: &F,
     workers: usize,
     room: u32,
-    any: bool,
-) -> Result<String, Fail>
-    requires fits { IsFit (Counted.kinds_of functions.now) tables.now block.now }
+) -> Result<(usize, u64), Fail>
+    requires fits { IsFit (F.kinds_of functions.now) tables.now block.now }
     requires reachable { IsReachable block.now }
     requires workers { (0 < workers) × (workers ≤ 16) }
     requires room { room ≤ 4096 }
 {
     let policies = policies_of(alloc, workers)?;
     let cached = run_many_cached(rt, alloc, block, tables, policies, functions, &NoGate, room)?;
-    let hits = cached.hits;
-    let found = cached.many.answered.combos.len();
+    Ok((cached.many.answered.combos.len(), cached.hits))
+}
+
+// What is said of so many combinations, hits and calls. Where `any`, not how often a condition was tested.
+fn said_of(alloc: Global, found: usize, hits: u64, called: u64, any: bool) -> Result<String, Fail> {
     let some = if hits > 0 { "some" } else { "none" };
     if any {
         return Ok(format!(in alloc; "{found} any {some}")?);
     }
-    let tests = hits.saturating_add(functions.calls());
+    let tests = hits.saturating_add(called);
     Ok(format!(in alloc; "{found} {tests} {some}")?)
 }
 
@@ -90,7 +92,8 @@ fn case_said<R: Threads + Wait + Sync>(
     match block_of_case(alloc, catalogue, ways, text, &functions)? {
         Some(block) => {
             let tables = catalogue.tables();
-            said_of(rt, alloc, &block, tables, &functions, workers, room, any)
+            let (found, hits) = found_by(rt, alloc, &block, tables, &functions, workers, room)?;
+            said_of(alloc, found, hits, functions.calls(), any)
         }
         None => Ok(String::from_str(alloc, "no block")?),
     }
