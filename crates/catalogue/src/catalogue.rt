@@ -3,7 +3,7 @@ ghost use Rattle.std.specs.Prelude.{◌≡◌, ◌<◌, None, Some, IsSome, leng
 ghost use Rattle.catalogue.specs.Named.{no_tables, place_of_table, with_table};
 
 use crate::fault::CatalogueFault;
-use crate::names::{place_of, push_name};
+use crate::names::{fault_without_copy, place_of, push_name};
 use indexmap::IndexSet;
 use sq_value::{Memory, Table, Tables};
 use std::alloc::Global;
@@ -44,7 +44,7 @@ impl Catalogue {
     ///
     /// # Errors
     /// - `RepeatedTable`: a table of that name is there.
-    /// - `Memory`: there is no memory for the name or the place.
+    /// - `Memory`: there is none, and no memory for the name or the place.
     ///
     /// The catalogue is then unchanged, and the table is dropped.
     pub fn add(&mut self, name: &str, table: Table) -> Result<u32, CatalogueFault>
@@ -53,10 +53,13 @@ impl Catalogue {
         ensures added { OnOk result (self.new ≡ with_table self.old name.now table) }
         ensures fresh { OnOk result (place_of_table self.old name.now ≡ None) }
         ensures repeated { result ≡ Err CatalogueFault.RepeatedTable → IsSome (place_of_table self.old name.now) }
+        ensures memory { result ≡ Err CatalogueFault.Memory → place_of_table self.old name.now ≡ None }
         ensures unchanged { OnErr result (self.new ≡ self.old) }
     {
         let alloc = *self.names.allocator();
-        let lower = name.to_ascii_lowercase(alloc)?;
+        let Ok(lower) = name.to_ascii_lowercase(alloc) else {
+            return Err(fault_without_copy(&self.names, name));
+        };
         if place_of(&self.names, lower.as_str()).is_some() {
             return Err(CatalogueFault::RepeatedTable);
         }

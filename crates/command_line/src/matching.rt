@@ -16,7 +16,8 @@ use clap::{ArgMatches, Error};
 use std::alloc::Global;
 
 fn fault_of(error: &Error) -> WordsFault
-    ensures { result ≡ WordsFault.OutOfForm → kind_of error.now ≢ ErrorKind.OutOfMemory }
+    ensures form { result ≡ WordsFault.OutOfForm → kind_of error.now ≢ ErrorKind.OutOfMemory }
+    ensures memory { result ≡ WordsFault.Memory → kind_of error.now ≡ ErrorKind.OutOfMemory }
 {
     match error.kind() {
         ErrorKind::OutOfMemory => WordsFault::Memory,

@@ -49,7 +49,7 @@ impl<const M: u32> Functions<M> {
     /// # Errors
     /// `RepeatedName`: its name, but for the case of ASCII letters, or its number is there.
     /// `Full`: they aren't, and 32 predicates are there.
-    /// `Memory`: there is no memory for its place.
+    /// `Memory`: neither is so, and there is no memory for its place.
     /// The predicates are then unchanged, and the new one is dropped.
     pub fn add(&mut self, item: Registered<M>) -> Result<(), AddFault>
         ensures added { OnOk result (signatures self.new ≡ signatures self.old ++ item.entry.signature ∷ []) }
@@ -61,6 +61,9 @@ impl<const M: u32> Functions<M> {
         ensures full { result ≡ Err AddFault.Full → 32 ≤ length (signatures self.old) }
         ensures not_repeated { result ≡ Err AddFault.Full → is_taken (signatures self.old)
             item.entry.signature.name item.entry.signature.number ≡ false }
+        ensures memory { result ≡ Err AddFault.Memory → is_taken (signatures self.old)
+            item.entry.signature.name item.entry.signature.number ≡ false }
+        ensures memory_few { result ≡ Err AddFault.Memory → length (signatures self.old) ≤ 31 }
         ensures unchanged { OnErr result (stored self.new ≡ stored self.old) }
     {
         let taken = has_name(&self.items, item.signature.name.as_str())

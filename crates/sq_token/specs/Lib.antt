@@ -1,5 +1,6 @@
 pub mod Form
 pub mod Piece
+pub mod Longest
 pub mod Quoted
 pub mod Token
 pub mod Mark

@@ -9,5 +9,5 @@ mod token;
 
 pub use form::Form;
 pub use mark::{Mark, is_agg, is_comparison, is_name, is_reckoned, is_sign, mark_of, same};
-pub use piece::{Drawn, draw};
+pub use piece::{Drawn, draw, longest_law};
 pub use token::{Span, Token, TokenKind, name_content, text_content, tokens};

@@ -1,7 +1,8 @@
 //! Draws the tokens of a text, one at a time.
 
-ghost use Rattle.std.specs.Prelude.{◌≡◌, ◌+◌, ◌<◌, ◌≤◌, length, IfSome, ⊤};
+ghost use Rattle.std.specs.Prelude.{◌≡◌, ℕ, List, ◌+◌, ◌<◌, ◌≤◌, length, IfSome, ⊤};
 ghost use Rattle.sq_token.specs.Form.{IsCut};
+ghost use Rattle.sq_token.specs.Longest.{AreTokens};
 ghost use Rattle.sq_token.specs.Piece as spec;
 
 use crate::form::{Form, front};
@@ -57,3 +58,12 @@ pub fn draw(text: &str, at: u32) -> Option<Drawn<'_>>
     }
     None
 }
+
+/// The law of [`draw`] and [`tokens`](crate::tokens). It does nothing.
+///
+/// A text is a gap, a token, a gap and so on. A gap is blanks and comments. Each token has a form of the
+/// grammar, and none that is longer begins what is left. Where none begins it, one byte is the last
+/// token, of the form [`Form::Bad`].
+pub fn longest_law()
+    ensures { (at : ℕ) (text : List ℕ) → AreTokens at text (spec.pieces at text) }
+{}

@@ -1,7 +1,8 @@
 //! Decimal numbers written as texts.
-ghost use Rattle.std.specs.Prelude.{◌≡◌, ◌+◌, ◌<◌, ◌≤◌, [], ◌∷◌, ◌++◌, OnOk};
+ghost use Rattle.std.specs.Prelude.{◌≡◌, ℕ, ℤ, ◌+◌, ◌<◌, ◌≤◌, [], ◌∷◌, ◌++◌, Ok, OnOk, IsTrue};
 ghost use Rattle.std.specs.Fmt.{sign_text, decimal};
-ghost use Rattle.sq_value.specs.Decimal.{last_digits, fraction_text, decimal_text};
+ghost use Rattle.sq_value.specs.Decimal.{last_digits, fraction_text, decimal_read, decimal_text};
+ghost use Rattle.sq_value.specs.Numeral.{is_i64};
 
 use crate::decimal::{Dec, power_of_ten};
 use crate::memory::Memory;
@@ -73,3 +74,12 @@ pub fn push_decimal(line: &mut Vec<u8>, number: Dec) -> Result<(), Memory>
     push_number(line, size / u64::from(power_of_ten(number.scale)))?;
     push_fraction(line, number.scale, size)
 }
+
+/// The law of [`push_decimal`] and [`read_decimal`](crate::read_decimal). It does nothing.
+///
+/// What writes a decimal number is read as that number again, at its scale.
+pub fn written_law()
+    ensures { (units : ℤ) (scale : ℕ) → IsTrue (is_i64 units)
+        → decimal_read scale (decimal_text record { units = units; scale = scale })
+        ≡ Ok record { units = units; scale = scale } }
+{}

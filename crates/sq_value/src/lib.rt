@@ -23,7 +23,7 @@ mod value;
 pub use columns::same_columns;
 pub use decimal::{Dec, DecFault, millionths, number_law};
 pub use decimal_reading::read_decimal;
-pub use decimal_writing::push_decimal;
+pub use decimal_writing::{push_decimal, written_law};
 pub use integer::{IntFault, read_int};
 pub use key::{Key, key_laws, key_of, key_order};
 pub use logic::{and, not, or};

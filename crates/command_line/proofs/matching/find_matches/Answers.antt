@@ -25,4 +25,4 @@ pub returns-in-Err-clause-refused : goal.returns-in-Err-clause-refused
 returns-in-Err-clause-refused c =
     let words = map (string_bytes {Z = Global}) c.args.words.now in
     λ out. not_true (takes program words)
-    (λ taken. c.fault_of.ensures out (c.in-Err.ensures.passes (ap (λ (a : App). takes a words) c.in-Ok.ensures ∙ taken)))
+    (λ taken. c.fault_of.ensures.form out (c.in-Err.ensures.passes (ap (λ (a : App). takes a words) c.in-Ok.ensures ∙ taken)))
