@@ -1,4 +1,5 @@
--- The text of `--remote`: items with a comma between each two, each a remote's name, `.`, a column, `=` and a prefix of files' names.
+-- The text of `--remote`: items with a comma between each two, each a remote's name, `.`, a column, `=` and a prefix of
+-- files' names.
 use Rattle.std.specs.Prelude.{ℕ, ◌+◌, Bool, true, not, ◌&&◌, nat_lt, nat_le, List, [], ◌∷◌, length, map, Option, Some, None, if◌then◌else◌}
 use Rattle.std.specs.List.{list_all, list_any, before_first, after_first, slice_split}
 use Rattle.sq_value.specs.Name.{is_same_name}
@@ -7,17 +8,21 @@ use Rattle.command_line.specs.Accesses.{is_comma, is_dot}
 use Rattle.command_line.specs.declared.command.RemoteWord.{RemoteWord}
 use Rattle.command_line.specs.declared.command.TableWord.{TableWord}
 
--- the remote of a name, and of what stands behind its `.`: the column before the first `=` of that, and the prefix behind it
+-- the remote of a name, and of what stands behind its `.`: the column before the first `=` of that, and the prefix
+-- behind it
 abbrev pub remote_with : List ℕ → List ℕ → RemoteWord
-remote_with name rest = record { name = name; column = before_first is_equals rest; prefix = after_first is_equals rest }
+remote_with name rest =
+    record { name = name; column = before_first is_equals rest; prefix = after_first is_equals rest }
 
 -- the remote of an item: its name stands before the first `.`
 abbrev pub remote_of_item : List ℕ → RemoteWord
 remote_of_item item = remote_with (before_first is_dot item) (after_first is_dot item)
 
--- whether a remote has a regular identifier of 1 to 64 bytes as its name, and a column's name and a prefix that aren't empty
+-- whether a remote has a regular identifier of 1 to 64 bytes as its name, and a column's name and a prefix that aren't
+-- empty
 abbrev pub is_remote : RemoteWord → Bool
-is_remote r = is_identifier r.name && nat_le (length r.name) 64 && nat_lt 0 (length r.column) && nat_lt 0 (length r.prefix)
+is_remote r =
+    is_identifier r.name && nat_le (length r.name) 64 && nat_lt 0 (length r.column) && nat_lt 0 (length r.prefix)
 
 -- whether a remote has this name, but for the case of ASCII letters
 abbrev pub is_called : List ℕ → RemoteWord → Bool

@@ -16,8 +16,8 @@ pub record IsAccess (tables : ℕ) (a : AccessWord) : Type 0 where
   pub table : a.table < tables
   pub column : 1 ≤ length a.column
 
--- there are 1 to 16 tables whose names differ, and accesses of some of them, at most one of each; the remotes are 4 at most,
--- with the tables 16 at most, and their names are new and differ
+-- there are 1 to 16 tables whose names differ, and accesses of some of them, at most one of each; the remotes are 4 at
+-- most, with the tables 16 at most, and their names are new and differ
 pub record IsQuery (q : QueryWords) : Type 0 where
   pub some : 1 ≤ length q.tables
   pub few : length q.tables ≤ 16
