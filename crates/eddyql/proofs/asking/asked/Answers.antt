@@ -9,14 +9,14 @@ use Rattle.eddyql.proofs.asking.asked.Goals as goal
 
 pub returns-then-is_run-clause-ok : goal.returns-then-is_run-clause-ok
 returns-then-is_run-clause-ok c =
-    asked_of (map string_bytes c.args.words.now) c.in-Ok.command c.request_of.result c.in-Ok.ensures.taken c.request_of.ensures
+    asked_of (map string_bytes c.args.words.now) c.in-Ok.command c.request_of-request.result c.in-Ok.ensures.taken c.request_of-request.ensures
     (sym c.is_run.ensures ∙ c.if-is_run.true)
 
 pub returns-else-is_run-clause-refused : goal.returns-else-is_run-clause-refused
 returns-else-is_run-clause-refused c =
     inr (
       refl,
-      asked_unrun (map string_bytes c.args.words.now) c.in-Ok.command c.request_of.result c.in-Ok.ensures.taken c.request_of.ensures
+      asked_unrun (map string_bytes c.args.words.now) c.in-Ok.command c.request_of-request.result c.in-Ok.ensures.taken c.request_of-request.ensures
           (sym c.is_run.ensures ∙ c.if-is_run.false),
     )
 
@@ -25,8 +25,8 @@ returns-in-Err-OutOfForm-clause-refused c = inr (refl, asked_none (map string_by
 
 pub returns-then-is_run-clause-task : goal.returns-then-is_run-clause-task
 returns-then-is_run-clause-task c =
-    subst (λ (r : Request). IsTask r.task) (sym c.request_of.ensures) (request_within c.in-Ok.command c.in-Ok.ensures.within).0
+    subst (λ (r : Request). IsTask r.task) (sym c.request_of-request.ensures) (request_within c.in-Ok.command c.in-Ok.ensures.within).0
 
 pub returns-then-is_run-clause-settings : goal.returns-then-is_run-clause-settings
 returns-then-is_run-clause-settings c =
-    subst (λ (r : Request). AreSettings r.settings) (sym c.request_of.ensures) (request_within c.in-Ok.command c.in-Ok.ensures.within).1
+    subst (λ (r : Request). AreSettings r.settings) (sym c.request_of-request.ensures) (request_within c.in-Ok.command c.in-Ok.ensures.within).1
