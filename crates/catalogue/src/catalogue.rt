@@ -1,5 +1,5 @@
 //! Tables by name, over a set of names that keeps their order.
-ghost use Rattle.std.specs.Prelude.{◌≡◌, ◌<◌, None, IsSome, length, IfOk, IfSome, OnOk, OnErr};
+ghost use Rattle.std.specs.Prelude.{◌≡◌, ◌<◌, None, Some, IsSome, length, set, slice_get, IfOk, IfSome, OnOk, OnErr};
 ghost use Rattle.catalogue.specs.Named.{no_tables, place_of_table, with_table};
 
 use crate::fault::CatalogueFault;
@@ -92,5 +92,16 @@ impl Catalogue {
         ensures { result.now ≡ self.now.tables }
     {
         &self.tables
+    }
+
+    /// Puts a table at the place of another, whose columns it has, and gives the other one. The
+    /// place is one of a table, and its name stays.
+    pub fn set(&mut self, table: u32, new: Table) -> Table
+        requires there { table < length self.old.tables }
+        requires columns { IfSome (slice_get self.old.tables table) (λ old. new.columns ≡ old.columns) }
+        ensures replaced { self.new ≡ record self.old { tables = set self.old.tables table new } }
+        ensures given { slice_get self.old.tables table ≡ Some result }
+    {
+        self.tables.set(table, new)
     }
 }

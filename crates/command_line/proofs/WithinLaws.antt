@@ -1,7 +1,7 @@
 -- What holds of every command.
-use Rattle.std.proofs.Common.{◌≡◌, ◌∙◌, ℕ, ◌≤◌, ◌<◌, ◌&&◌, Bool, cond, true, false, List, [], ◌∷◌, ◌++◌, length, Option, Some, None, refl, sym, ap, subst, arith, leb, ltb}
+use Rattle.std.proofs.Common.{◌≡◌, ◌∙◌, ℕ, ◌+◌, ◌≤◌, ◌<◌, ◌&&◌, Bool, cond, true, false, List, [], ◌∷◌, ◌++◌, length, Option, Some, None, refl, sym, ap, subst, arith, leb, ltb}
 use Rattle.std.specs.Prelude.{nat_lt, nat_le, map, is_none, All, position, option_map, codes, unwrap_or}
-use Rattle.std.specs.List.{list_all}
+use Rattle.std.specs.List.{list_all, slice_split}
 use Rattle.std.specs.Result.{is_ok}
 use Rattle.std.specs.Str.Parse.{digits_value}
 use Rattle.std.proofs.lemmas.Bool.{leb-true, ltb-true}
@@ -15,12 +15,14 @@ use Rattle.route_policy.specs.ScriptReading.{script_of}
 use Rattle.command_line.specs.Steps.{◌>>=◌}
 use Rattle.command_line.specs.Program.{program}
 use Rattle.command_line.specs.Tables.{is_named_file, names_differ, table_of_word, tables_of, has_name}
-use Rattle.command_line.specs.Accesses.{access_of, access_with, accesses_of, accesses_of_items, items_in, is_dot, if_differ, tables_differ}
+use Rattle.command_line.specs.Accesses.{access_of, access_with, accesses_of, accesses_of_items, items_in, is_comma, is_dot, if_differ, tables_differ}
+use Rattle.command_line.specs.Remotes.{is_remote, remotes_differ, remotes_of, remote_of_item, if_in_form}
 use Rattle.command_line.specs.Settings.{is_number, number_between, number_or, workers_of, seed_of, cache_of, policy_of, route_of, is_flag_given}
 use Rattle.command_line.specs.Form.{command, command_of, asked_by, task_in, task_of, query_of, demo_of, other_words_of}
 use Rattle.command_line.specs.Within.{IsAccess, IsQuery, IsDemo, IsTask, IsWithin}
 use Rattle.command_line.specs.declared.command.TableWord.{TableWord}
 use Rattle.command_line.specs.declared.command.AccessWord.{AccessWord}
+use Rattle.command_line.specs.declared.command.RemoteWord.{RemoteWord}
 use Rattle.command_line.specs.declared.command.Command.{Command}
 use Rattle.command_line.specs.declared.command.PolicyName.{PolicyName}
 use Rattle.command_line.specs.declared.command.Query.{Query as QueryWords}
@@ -138,29 +140,78 @@ accesses_pass tables index lookup accesses e =
         subst (λ (zs : List AccessWord). All (IsAccess (length tables)) zs × (tables_differ zs ≡ true)) differ.1
         (All-append (IsAccess (length tables)) xs ys p q, differ.0)
 
-query_in : (words : List Text) (index lookup : Option Text) (q : QueryWords) → query_of words index lookup ≡ Some q → IsQuery q
-query_in [] index lookup q e = absurd cc
-query_in (script ∷ words) index lookup q e =
-    let first = step_given (tables_of words) (λ tables. accesses_of tables index lookup >>= (λ accesses. Some (query tables accesses))) q e in
-    let second = step_given (accesses_of first.0 index lookup) (λ accesses. Some (query first.0 accesses)) q first.2 in
-    made first.0 second.0 (tables_pass (map table_of_word words) first.0 first.1) (accesses_pass first.0 index lookup second.0 second.1) second.2
-  where
-    query : List TableWord → List AccessWord → QueryWords
-    query tables accesses = record { script = script; tables = tables; accesses = accesses }
+all_remotes : (rs : List RemoteWord) → list_all is_remote rs ≡ true → All (λ r. is_remote r ≡ true) rs
+all_remotes [] e = All-nil _
+all_remotes (r ∷ rs) e = let parts = both (is_remote r) (list_all is_remote rs) e in All-cons (λ (s : RemoteWord). is_remote s ≡ true) r rs parts.0 (all_remotes rs parts.1)
 
-    made : (tables : List TableWord) (accesses : List AccessWord)
+-- what remotes are that pass
+record AreRemotes (tables : List TableWord) (remotes : List RemoteWord) : Type 0 where
+  pub few : length remotes ≤ 4
+  pub together : length tables + length remotes ≤ 16
+  pub each : All (λ r. is_remote r ≡ true) remotes
+  pub apart : remotes_differ tables remotes ≡ true
+
+remotes_pass : (tables : List TableWord) (text : Option Text) (remotes : List RemoteWord) → length tables ≤ 16 → remotes_of tables text ≡ Some remotes
+    → AreRemotes tables remotes
+unfolding remotes_differ
+remotes_pass tables None remotes fits e =
+    subst (AreRemotes tables) (given e) (record {
+      few = omega arith;
+      together = omega (arith, fits);
+      each = All-nil _;
+      apart = refl;
+    })
+  where
+    given : Some [] ≡ Some remotes → [] ≡ remotes
+    given f = cc
+remotes_pass tables (Some text) remotes fits e = by (map remote_of_item (slice_split is_comma text)) e
+  where
+    by : (rs : List RemoteWord) → if_in_form tables rs ≡ Some remotes → AreRemotes tables remotes
+    by rs f =
+        let few = nat_le (length rs) 4 in
+        let together = nat_le (length tables + length rs) 16 in
+        let each = list_all is_remote rs in
+        let through = let_through (few && together && each && remotes_differ tables rs) rs remotes f in
+        let three = both (few && together && each) (remotes_differ tables rs) through.0 in
+        let two = both (few && together) each three.0 in
+        let one = both few together two.0 in
+        subst (AreRemotes tables) through.1 (record {
+          few = leb-true (length rs) 4 one.0;
+          together = leb-true (length tables + length rs) 16 one.1;
+          each = all_remotes rs two.1;
+          apart = three.1;
+        })
+
+query_in : (words : List Text) (index lookup remote : Option Text) (q : QueryWords) → query_of words index lookup remote ≡ Some q → IsQuery q
+query_in [] index lookup remote q e = absurd cc
+query_in (script ∷ words) index lookup remote q e =
+    let first = step_given (tables_of words)
+    (λ tables. accesses_of tables index lookup >>= (λ accesses. remotes_of tables remote >>= (λ remotes. Some (query tables accesses remotes)))) q e in
+    let second = step_given (accesses_of first.0 index lookup) (λ accesses. remotes_of first.0 remote >>= (λ remotes. Some (query first.0 accesses remotes))) q first.2 in
+    let third = step_given (remotes_of first.0 remote) (λ remotes. Some (query first.0 second.0 remotes)) q second.2 in
+    let tables = tables_pass (map table_of_word words) first.0 first.1 in
+    made first.0 second.0 third.0 tables (accesses_pass first.0 index lookup second.0 second.1) (remotes_pass first.0 remote third.0 tables.1 third.1) third.2
+  where
+    query : List TableWord → List AccessWord → List RemoteWord → QueryWords
+    query tables accesses remotes = record { script = script; tables = tables; accesses = accesses; remotes = remotes }
+
+    made : (tables : List TableWord) (accesses : List AccessWord) (remotes : List RemoteWord)
         → (1 ≤ length tables) × (length tables ≤ 16) × All (λ t. is_named_file t ≡ true) tables × (names_differ tables ≡ true)
-        → All (IsAccess (length tables)) accesses × (tables_differ accesses ≡ true) → Some (query tables accesses) ≡ Some q → IsQuery q
-    made tables accesses ts xs e = subst IsQuery (given e) (record {
+        → All (IsAccess (length tables)) accesses × (tables_differ accesses ≡ true) → AreRemotes tables remotes → Some (query tables accesses remotes) ≡ Some q → IsQuery q
+    made tables accesses remotes ts xs rs e = subst IsQuery (given e) (record {
       some = ts.0;
       few = ts.1;
       named = ts.2;
       names = ts.3;
       accesses = xs.0;
       tables = xs.1;
+      remotes = rs.few;
+      together = rs.together;
+      prefixed = rs.each;
+      apart = rs.apart;
     })
       where
-        given : Some (query tables accesses) ≡ Some q → query tables accesses ≡ q
+        given : Some (query tables accesses remotes) ≡ Some q → query tables accesses remotes ≡ q
         given f = cc
 
 mapped : {A B : Type 0} (f : A → B) (o : Option A) (y : B) → option_map f o ≡ Some y → (x : A) × (o ≡ Some x) × (f x ≡ y)
@@ -170,13 +221,13 @@ mapped f (Some x) y e = (x, refl, same (f x) y e)
     same : {B : Type 0} (x y : B) → Some x ≡ Some y → x ≡ y
     same x y g = cc
 
-task_within : (demo : Option Text) (words : List Text) (index lookup : Option Text) (t : Task) → task_of demo words index lookup ≡ Some t → IsTask t
-task_within None words index lookup t e =
-    let got = mapped Query (query_of words index lookup) t e in
-    subst IsTask got.2 (query_in words index lookup got.0 got.1)
-task_within (Some rows) words index lookup t e =
-    let got = mapped Demo (demo_of rows words index lookup) t e in
-    subst IsTask got.2 (demo_in (is_empty words && is_none index && is_none lookup) got.0 got.1)
+task_within : (demo : Option Text) (words : List Text) (index lookup remote : Option Text) (t : Task) → task_of demo words index lookup remote ≡ Some t → IsTask t
+task_within None words index lookup remote t e =
+    let got = mapped Query (query_of words index lookup remote) t e in
+    subst IsTask got.2 (query_in words index lookup remote got.0 got.1)
+task_within (Some rows) words index lookup remote t e =
+    let got = mapped Demo (demo_of rows words index lookup remote) t e in
+    subst IsTask got.2 (demo_in (is_empty words && is_none index && is_none lookup && is_none remote) got.0 got.1)
   where
     demo_in : (b : Bool) (n : ℕ) → cond b (number_between 1 100000 rows) None ≡ Some n → IsDemo n
     demo_in true n f = let range = in_range 1 100000 rows n f in record { some = range.0; few = range.1 }
@@ -196,7 +247,7 @@ asked_within rows c e =
       few = range.1;
       route = route_in (first_of (codes "route") rows) route.0 route.1;
       cache = cache_in (first_of (codes "cache") rows) cache.0 cache.1;
-      task = task_within (first_of (codes "demo") rows) (other_words_of rows) (first_of (codes "index") rows) (first_of (codes "lookup") rows) task.0 task.1;
+      task = task_within (first_of (codes "demo") rows) (other_words_of rows) (first_of (codes "index") rows) (first_of (codes "lookup") rows) (first_of (codes "remote") rows) task.0 task.1;
     })
   where
     given : (x : Command) → Some x ≡ Some c → x ≡ c

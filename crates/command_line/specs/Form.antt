@@ -7,6 +7,7 @@ use Rattle.command_line.specs.Steps.{◌>>=◌}
 use Rattle.command_line.specs.Program.{program}
 use Rattle.command_line.specs.Tables.{tables_of}
 use Rattle.command_line.specs.Accesses.{accesses_of}
+use Rattle.command_line.specs.Remotes.{remotes_of}
 use Rattle.command_line.specs.Settings.{number_between, workers_of, seed_of, cache_of, policy_of, route_of, is_flag_given}
 use Rattle.command_line.specs.declared.command.Command.{Command}
 use Rattle.command_line.specs.declared.command.PolicyName.{PolicyName}
@@ -14,28 +15,29 @@ use Rattle.command_line.specs.declared.command.Query.{Query as QueryWords}
 use Rattle.command_line.specs.declared.command.Task.{Task}
 use Rattle.command_line.specs.declared.command.Task.TheVariants.{Query, Demo}
 
--- a script's file, the tables of the words behind it, and the accesses of the two options
-abbrev pub query_of : List Text → Option Text → Option Text → Option QueryWords
-query_of [] index lookup = None
-query_of (script ∷ words) index lookup = do
+-- a script's file, the tables of the words behind it, the accesses of two options, and the remotes of the third
+abbrev pub query_of : List Text → Option Text → Option Text → Option Text → Option QueryWords
+query_of [] index lookup remote = None
+query_of (script ∷ words) index lookup remote = do
   tables ← tables_of words
   accesses ← accesses_of tables index lookup
-  Some (record { script = script; tables = tables; accesses = accesses })
+  remotes ← remotes_of tables remote
+  Some (record { script = script; tables = tables; accesses = accesses; remotes = remotes })
 
--- the demo's rows, 1 to 100,000, where there is no script, no table and no access
-abbrev pub demo_of : Text → List Text → Option Text → Option Text → Option ℕ
-demo_of rows words index lookup =
-    if is_empty words && is_none index && is_none lookup then number_between 1 100000 rows else None
+-- the demo's rows, 1 to 100,000, where there is no script, no table, no access and no remote
+abbrev pub demo_of : Text → List Text → Option Text → Option Text → Option Text → Option ℕ
+demo_of rows words index lookup remote =
+    if is_empty words && is_none index && is_none lookup && is_none remote then number_between 1 100000 rows else None
 
 -- a command of these parts
 abbrev pub command_of : ℕ → PolicyName → ℕ → Text → ℕ → Bool → Task → Command
 command_of workers policy seed route cache tally task =
     record { workers = workers; policy = policy; seed = seed; route = route; cache = cache; tally = tally; task = task }
 
--- what is to be run, by the text of `--demo`, the words that are no option's, and the texts of the two options
-abbrev pub task_of : Option Text → List Text → Option Text → Option Text → Option Task
-task_of None words index lookup = option_map Query (query_of words index lookup)
-task_of (Some rows) words index lookup = option_map Demo (demo_of rows words index lookup)
+-- what is to be run, by the text of `--demo`, the words that are no option's, and the texts of the three options
+abbrev pub task_of : Option Text → List Text → Option Text → Option Text → Option Text → Option Task
+task_of None words index lookup remote = option_map Query (query_of words index lookup remote)
+task_of (Some rows) words index lookup remote = option_map Demo (demo_of rows words index lookup remote)
 
 -- the words that are no option's, among what clap finds
 abbrev pub other_words_of : List Row → List Text
@@ -45,7 +47,7 @@ other_words_of rows = unwrap_or (all_of (codes "words") rows) []
 abbrev pub task_in : List Row → Option Task
 task_in rows =
     task_of (first_of (codes "demo") rows) (other_words_of rows) (first_of (codes "index") rows)
-    (first_of (codes "lookup") rows)
+    (first_of (codes "lookup") rows) (first_of (codes "remote") rows)
 
 -- what the texts ask for that clap finds in some words
 abbrev pub asked_by : List Row → Option Command

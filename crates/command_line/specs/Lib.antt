@@ -3,6 +3,7 @@ pub mod Answers
 pub mod Program
 pub mod Tables
 pub mod Accesses
+pub mod Remotes
 pub mod Settings
 pub mod Form
 pub mod Within

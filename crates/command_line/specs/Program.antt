@@ -38,6 +38,12 @@ with_settings =
     (option_named (codes "policy"))) (option_named (codes "seed"))) (option_named (codes "route")))
     (option_named (codes "cache"))
 
+-- and with those that say how tables are reached
+abbrev pub with_reach : App
+with_reach =
+    with_rule (with_rule (with_rule with_settings (option_named (codes "index"))) (option_named (codes "lookup")))
+    (option_named (codes "remote"))
+
 -- the command line: its options, its flag, and any number of other words
 unfoldable pub program : App
 program =
@@ -46,8 +52,8 @@ program =
           record bare_program.top {
             rules = option_named (codes "workers") ∷ option_named (codes "policy") ∷ option_named (codes "seed")
                 ∷ option_named (codes "route") ∷ option_named (codes "cache") ∷ option_named (codes "index")
-                ∷ option_named (codes "lookup") ∷ option_named (codes "demo") ∷ flag_named (codes "tally")
-                ∷ other_words ∷ [];
+                ∷ option_named (codes "lookup") ∷ option_named (codes "remote") ∷ option_named (codes "demo")
+                ∷ flag_named (codes "tally") ∷ other_words ∷ [];
           };
       subs = [];
     }

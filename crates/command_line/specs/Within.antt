@@ -1,9 +1,10 @@
 -- What holds of every command, whatever its words: what a run may rely on.
-use Rattle.std.specs.Prelude.{◌≡◌, ◌≤◌, ◌<◌, ℕ, true, List, length, All}
+use Rattle.std.specs.Prelude.{◌≡◌, ◌+◌, ◌≤◌, ◌<◌, ℕ, true, List, length, All}
 use Rattle.std.specs.Result.{is_ok}
 use Rattle.route_policy.specs.ScriptReading.{script_of}
 use Rattle.command_line.specs.Tables.{is_named_file, names_differ}
 use Rattle.command_line.specs.Accesses.{tables_differ}
+use Rattle.command_line.specs.Remotes.{is_remote, remotes_differ}
 use Rattle.command_line.specs.declared.command.AccessWord.{AccessWord}
 use Rattle.command_line.specs.declared.command.Command.{Command}
 use Rattle.command_line.specs.declared.command.Query.{Query as QueryWords}
@@ -15,7 +16,8 @@ pub record IsAccess (tables : ℕ) (a : AccessWord) : Type 0 where
   pub table : a.table < tables
   pub column : 1 ≤ length a.column
 
--- there are 1 to 16 tables whose names differ, and accesses of some of them, at most one of each
+-- there are 1 to 16 tables whose names differ, and accesses of some of them, at most one of each; the remotes are 4 at
+-- most, with the tables 16 at most, and their names are new and differ
 pub record IsQuery (q : QueryWords) : Type 0 where
   pub some : 1 ≤ length q.tables
   pub few : length q.tables ≤ 16
@@ -23,6 +25,10 @@ pub record IsQuery (q : QueryWords) : Type 0 where
   pub names : names_differ q.tables ≡ true
   pub accesses : All (IsAccess (length q.tables)) q.accesses
   pub tables : tables_differ q.accesses ≡ true
+  pub remotes : length q.remotes ≤ 4
+  pub together : length q.tables + length q.remotes ≤ 16
+  pub prefixed : All (λ r. is_remote r ≡ true) q.remotes
+  pub apart : remotes_differ q.tables q.remotes ≡ true
 
 -- there are 1 to 100,000 rows
 pub record IsDemo (rows : ℕ) : Type 0 where

@@ -13,7 +13,7 @@ use sqlite_items::Items;
 use std::alloc::Global;
 
 /// The text before the first `.`, or all where there is none.
-fn table_in(item: &str) -> &str
+pub(crate) fn before_dot(item: &str) -> &str
     ensures { result.now ≡ before_first spec.is_dot item.now }
 {
     match item.split_once('.') {
@@ -23,7 +23,7 @@ fn table_in(item: &str) -> &str
 }
 
 /// The text behind the first `.`, or none where there is none.
-fn column_in(item: &str) -> &str
+pub(crate) fn behind_dot(item: &str) -> &str
     ensures { result.now ≡ after_first spec.is_dot item.now }
 {
     match item.split_once('.') {
@@ -42,10 +42,10 @@ fn access_of(
     requires { length tables.now ≤ 16 }
     ensures { Reads (spec.access_of tables.now scan item.now) result }
 {
-    let Some(table) = place_of(tables, table_in(item)) else {
+    let Some(table) = place_of(tables, before_dot(item)) else {
         return Err(WordsFault::OutOfForm);
     };
-    let column = column_in(item);
+    let column = behind_dot(item);
     if column.is_empty() {
         return Err(WordsFault::OutOfForm);
     }
@@ -89,7 +89,7 @@ fn push_access(
 }
 
 /// A text before its first comma, and the text behind it where there is one.
-fn cut(text: &str) -> (&str, Option<&str>)
+pub(crate) fn cut(text: &str) -> (&str, Option<&str>)
     ensures items { slice_split spec.is_comma text.now ≡ result.0.now ∷ spec.items_in (option_map (λ t. t.now)
         result.1) }
     ensures shorter { IfSome result.1 (λ rest. length rest.now < length text.now) }

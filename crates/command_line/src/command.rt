@@ -20,6 +20,15 @@ pub struct AccessWord {
     pub scan: bool,
 }
 
+/// A remote of the command line, `T.C=PREFIX`: its name, the name of the column that it is looked up
+/// by, as it was given, and what the names of its files begin with.
+#[derive(Debug, Drop)]
+pub struct RemoteWord {
+    pub name: SqText,
+    pub column: SqText,
+    pub prefix: SqText,
+}
+
 /// The name of a policy.
 #[derive(Clone, Copy, Debug, PartialEq, Eq)]
 pub enum PolicyName {
@@ -33,13 +42,14 @@ pub enum PolicyName {
     Script,
 }
 
-/// A script to run over tables: the name of its file, the tables in the order of their words, and
-/// the accesses, those of `--index` first.
+/// A script to run over tables: the name of its file, the tables in the order of their words, the
+/// accesses, those of `--index` first, and the remotes in the order of their items.
 #[derive(Debug, Drop)]
 pub struct Query {
     pub script: SqText,
     pub tables: Items<TableWord>,
     pub accesses: Items<AccessWord>,
+    pub remotes: Items<RemoteWord>,
 }
 
 /// What is to be run: a script over tables, or the demo with so many rows a table.

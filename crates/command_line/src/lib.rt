@@ -10,9 +10,10 @@ mod fault;
 mod matching;
 mod program;
 mod reading;
+mod remotes;
 mod settings;
 mod tables;
 
-pub use command::{AccessWord, Command, PolicyName, Query, TableWord, Task};
+pub use command::{AccessWord, Command, PolicyName, Query, RemoteWord, TableWord, Task};
 pub use fault::WordsFault;
 pub use reading::read_command;

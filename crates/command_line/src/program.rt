@@ -64,6 +64,16 @@ fn with_settings<'a>(alloc: Global) -> Result<Command<'a>, AllocError>
     with_option(alloc, command, "cache")
 }
 
+/// The same with the options that say how tables are reached.
+fn with_reach<'a>(alloc: Global) -> Result<Command<'a>, AllocError>
+    ensures { IfOk result (λ more. app_of more ≡ spec.with_reach) }
+{
+    let command = with_settings(alloc)?;
+    let command = with_option(alloc, command, "index")?;
+    let command = with_option(alloc, command, "lookup")?;
+    with_option(alloc, command, "remote")
+}
+
 #[tactic(auto, unfolding(crate::specs::Program::program))]
 /// The command line: its options, its flag, and any number of other words.
 ///
@@ -72,9 +82,7 @@ fn with_settings<'a>(alloc: Global) -> Result<Command<'a>, AllocError>
 pub fn program<'a>(alloc: Global) -> Result<Command<'a>, AllocError>
     ensures { IfOk result (λ command. app_of command ≡ spec.program) }
 {
-    let command = with_settings(alloc)?;
-    let command = with_option(alloc, command, "index")?;
-    let command = with_option(alloc, command, "lookup")?;
+    let command = with_reach(alloc)?;
     let command = with_option(alloc, command, "demo")?;
     let command = command.arg(flag_named(alloc, "tally"))?;
     command.arg(other_words(alloc))

@@ -13,6 +13,7 @@ use crate::accesses::accesses_of;
 use crate::command::{Command, Query, Task};
 use crate::fault::WordsFault;
 use crate::matching::{find_matches, text_of};
+use crate::remotes::remotes_of;
 use crate::settings::{
     cache_of, is_flag_given, number_between, policy_of, route_of, seed_of, workers_of,
 };
@@ -24,26 +25,29 @@ use std::alloc::Global;
 /// The most rows of the demo.
 const MAX_ROWS: u64 = 100_000;
 
-/// The script's file, the tables and the accesses.
+/// The script's file, the tables, the accesses and the remotes.
 fn query_of(
     alloc: Global,
     words: &[&str],
     index: Option<&str>,
     lookup: Option<&str>,
+    remote: Option<&str>,
 ) -> Result<Query, WordsFault>
     ensures { Reads (spec.query_of (map (λ w. w.now) words.now) (option_map (λ t. t.now) index.entry)
-        (option_map (λ t. t.now) lookup.entry)) result }
+        (option_map (λ t. t.now) lookup.entry) (option_map (λ t. t.now) remote.entry)) result }
 {
     let [script, table_words @ ..] = words else {
         return Err(WordsFault::OutOfForm);
     };
     let tables = tables_of(alloc, table_words)?;
     let accesses = accesses_of(alloc, tables.as_slice(), index, lookup)?;
+    let remotes = remotes_of(alloc, tables.as_slice(), remote)?;
     let script = SqText::of(alloc, script)?;
     Ok(Query {
         script,
         tables,
         accesses,
+        remotes,
     })
 }
 
@@ -53,11 +57,12 @@ fn demo_of(
     words: &[&str],
     index: Option<&str>,
     lookup: Option<&str>,
+    remote: Option<&str>,
 ) -> Result<u32, WordsFault>
     ensures { Reads (spec.demo_of rows.now (map (λ w. w.now) words.now) (option_map (λ t. t.now) index.entry)
-        (option_map (λ t. t.now) lookup.entry)) result }
+        (option_map (λ t. t.now) lookup.entry) (option_map (λ t. t.now) remote.entry)) result }
 {
-    if !words.is_empty() || index.is_some() || lookup.is_some() {
+    if !words.is_empty() || index.is_some() || lookup.is_some() || remote.is_some() {
         return Err(WordsFault::OutOfForm);
     }
     match number_between(1, MAX_ROWS, rows) {
@@ -73,17 +78,19 @@ fn task_of(
     words: &[&str],
     index: Option<&str>,
     lookup: Option<&str>,
+    remote: Option<&str>,
 ) -> Result<Task, WordsFault>
     ensures { Reads (spec.task_of (option_map (λ t. t.now) demo.entry) (map (λ w. w.now) words.now)
-        (option_map (λ t. t.now) index.entry) (option_map (λ t. t.now) lookup.entry)) result }
+        (option_map (λ t. t.now) index.entry) (option_map (λ t. t.now) lookup.entry)
+        (option_map (λ t. t.now) remote.entry)) result }
 {
     match demo {
         Some(rows) => {
-            let rows = demo_of(rows, words, index, lookup)?;
+            let rows = demo_of(rows, words, index, lookup, remote)?;
             Ok(Task::Demo { rows })
         }
         None => {
-            let query = query_of(alloc, words, index, lookup)?;
+            let query = query_of(alloc, words, index, lookup, remote)?;
             Ok(Task::Query(query))
         }
     }
@@ -96,9 +103,10 @@ fn task_in(alloc: Global, matches: &ArgMatches<'_>) -> Result<Task, WordsFault>
     let demo = text_of(matches, "demo");
     let index = text_of(matches, "index");
     let lookup = text_of(matches, "lookup");
+    let remote = text_of(matches, "remote");
     match matches.get_raw("words") {
-        Some(words) => task_of(alloc, demo, words, index, lookup),
-        None => task_of(alloc, demo, &[], index, lookup),
+        Some(words) => task_of(alloc, demo, words, index, lookup, remote),
+        None => task_of(alloc, demo, &[], index, lookup, remote),
     }
 }
 

@@ -12,11 +12,11 @@ use sq_value::{Memory, SqText, same_name};
 use sqlite_items::Items;
 use std::alloc::Global;
 
-/// The most tables.
-const MAX_TABLES: usize = 16;
+/// The most tables, and remotes with them.
+pub(crate) const MAX_TABLES: usize = 16;
 
-/// The most bytes of a table's name.
-const MAX_NAME_BYTES: usize = 64;
+/// The most bytes of a table's name, or a remote's.
+pub(crate) const MAX_NAME_BYTES: usize = 64;
 
 fn begins_identifier(byte: u8) -> bool
     ensures { result ≡ spec.begins_identifier byte }
@@ -36,7 +36,7 @@ fn all_follow(text: &[u8]) -> bool
     text.iter().all(|byte| follows_in_identifier(*byte))
 }
 
-fn is_identifier(text: &[u8]) -> bool
+pub(crate) fn is_identifier(text: &[u8]) -> bool
     ensures { result ≡ spec.is_identifier text.now }
 {
     match text {
@@ -46,7 +46,7 @@ fn is_identifier(text: &[u8]) -> bool
 }
 
 /// The text before the first `=`, or all where there is none.
-fn name_in(word: &str) -> &str
+pub(crate) fn name_in(word: &str) -> &str
     ensures { result.now ≡ (table_of_word word.now).name }
 {
     match word.split_once('=') {
@@ -56,7 +56,7 @@ fn name_in(word: &str) -> &str
 }
 
 /// The text behind the first `=`, or none where there is none.
-fn file_in(word: &str) -> &str
+pub(crate) fn file_in(word: &str) -> &str
     ensures { result.now ≡ (table_of_word word.now).file }
 {
     match word.split_once('=') {
@@ -104,7 +104,7 @@ fn has_name(table: &TableWord, name: &str) -> bool
     same_name(table.name.as_str(), name)
 }
 
-fn is_named(tables: &[TableWord], name: &str) -> bool
+pub(crate) fn is_named(tables: &[TableWord], name: &str) -> bool
     ensures { result ≡ list_any (spec.has_name name.now) tables.now }
 {
     tables.iter().any(|table| has_name(table, name))

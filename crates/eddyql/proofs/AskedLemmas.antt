@@ -1,19 +1,30 @@
 -- What words ask for, by what the command line reads of them.
-use Rattle.std.proofs.Common.{◌≡◌, ℕ, List, Some, None, ap}
-use Rattle.std.specs.Prelude.{option_map}
+use Rattle.std.proofs.Common.{◌≡◌, ◌∙◌, ℕ, Bool, cond, true, false, List, Option, Some, None, ap, sym}
+use Rattle.std.specs.Prelude.{option_map, option_and_then}
 use Rattle.command_line.specs.Form.{command}
 use Rattle.command_line.specs.declared.command.Command.{Command}
 use Rattle.command_line.specs.Within.{IsTask, IsWithin}
 use Rattle.run_answers.specs.Settings.{AreSettings}
-use Rattle.eddyql.specs.Asked.{request_of, asked}
+use Rattle.eddyql.specs.Asked.{request_of, is_run, if_run, asked}
+use Rattle.eddyql.specs.declared.asking.Request.{Request}
 
-pub asked_of : (words : List (List ℕ)) (c : Command) → command words ≡ Some c → asked words ≡ Some (request_of c)
+pub asked_of : (words : List (List ℕ)) (c : Command) (r : Request) → command words ≡ Some c → r ≡ request_of c → is_run r.task ≡ true
+    → asked words ≡ Some r
 unfolding asked
-asked_of words c e = ap (option_map request_of) e
+asked_of words c r e f run =
+    ap (λ (o : Option Command). option_and_then if_run (option_map request_of o)) e ∙ ap if_run (sym f)
+    ∙ ap (λ (b : Bool). cond b (Some r) None) run
+
+pub asked_unrun : (words : List (List ℕ)) (c : Command) (r : Request) → command words ≡ Some c → r ≡ request_of c → is_run r.task ≡ false
+    → asked words ≡ None
+unfolding asked
+asked_unrun words c r e f run =
+    ap (λ (o : Option Command). option_and_then if_run (option_map request_of o)) e ∙ ap if_run (sym f)
+    ∙ ap (λ (b : Bool). cond b (Some r) None) run
 
 pub asked_none : (words : List (List ℕ)) → command words ≡ None → asked words ≡ None
 unfolding asked
-asked_none words e = ap (option_map request_of) e
+asked_none words e = ap (λ (o : Option Command). option_and_then if_run (option_map request_of o)) e
 
 -- what is asked for is within what the words may ask for
 pub request_within : (c : Command) → IsWithin c → IsTask (request_of c).task × AreSettings (request_of c).settings

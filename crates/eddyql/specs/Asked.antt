@@ -1,5 +1,5 @@
 -- What the words of the command line ask to be run.
-use Rattle.std.specs.Prelude.{ℕ, Bool, false, List, [], Option, option_map}
+use Rattle.std.specs.Prelude.{ℕ, Bool, true, false, ◌==◌, List, [], length, Option, Some, None, option_map, option_and_then, if◌then◌else◌}
 use Rattle.std.specs.Option.{option_map_or}
 use Rattle.command_line.specs.Form.{command}
 use Rattle.command_line.specs.declared.command.Command.{Command}
@@ -14,9 +14,17 @@ use Rattle.eddyql.specs.declared.asking.Request.{Request}
 abbrev pub request_of : Command → Request
 request_of c = record { task = c.task; settings = settings_of c }
 
--- what words ask for, where they are in form
+-- whether a task is run: one with remotes isn't
+abbrev pub is_run : Task → Bool
+is_run (Query q) = length q.remotes == 0
+is_run (Demo rows) = true
+
+abbrev pub if_run : Request → Option Request
+if_run a = if is_run a.task then Some a else None
+
+-- what words ask for, where they are in form and it is run
 unfoldable pub asked : List (List ℕ) → Option Request
-asked words = option_map request_of (command words)
+asked words = option_and_then if_run (option_map request_of (command words))
 
 -- the tables of the words: the demo has none
 abbrev pub tables_in : Task → List TableWord

@@ -54,10 +54,20 @@ fn request_of(command: Command) -> Request
     Request { task, settings }
 }
 
+// Whether a task is run: one with remotes isn't.
+fn is_run(task: &Task) -> bool
+    ensures { result ≡ spec.is_run task.now }
+{
+    match task {
+        Task::Query(query) => query.remotes.is_empty(),
+        Task::Demo { rows: _ } => true,
+    }
+}
+
 /// What the words ask for.
 ///
 /// # Errors
-/// `Usage`: exactly where the words aren't in form; or `Memory`.
+/// `Usage`: exactly where the words aren't in form, or ask for remotes; or `Memory`.
 pub fn asked(alloc: Global, words: &[String]) -> Result<Request, Status>
     ensures ok { IfOk result (λ a. spec.asked (map string_bytes words.now) ≡ Some a) }
     ensures task { IfOk result (λ a. IsTask a.task) }
@@ -66,7 +76,14 @@ pub fn asked(alloc: Global, words: &[String]) -> Result<Request, Status>
         ⊎ ((s ≡ Status.Usage) × (spec.asked (map string_bytes words.now) ≡ None))) }
 {
     match read_command(alloc, words) {
-        Ok(command) => Ok(request_of(command)),
+        Ok(command) => {
+            let request = request_of(command);
+            if is_run(&request.task) {
+                Ok(request)
+            } else {
+                Err(Status::Usage)
+            }
+        }
         Err(WordsFault::OutOfForm) => Err(Status::Usage),
         Err(WordsFault::Memory) => Err(Status::Memory),
     }

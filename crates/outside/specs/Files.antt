@@ -22,3 +22,8 @@ Gives held name limit bytes = IfSome held (λ files. option_map (take limit) (lo
 -- the folder tells its files, and none has that name
 abbrev pub Lacks : Option (List File) → List ℕ → Type 0
 Lacks held name = IsSomeAnd held (λ files. lookup files name ≡ None)
+
+-- what a look answers where the folder tells its files: the first bytes of the named one, up to the limit, or none
+-- where it is lacking
+abbrev pub Shows : Option (List File) → List ℕ → ℕ → Option (List ℕ) → Type 0
+Shows held name limit found = IfSome held (λ files. option_map (take limit) (lookup files name) ≡ found)

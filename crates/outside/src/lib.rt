@@ -25,7 +25,7 @@ pub use fault::{LoadFault, PutFault};
 pub use folder::Folder;
 pub use memory_folder::MemoryFolder;
 pub use memory_sink::MemorySink;
-pub use reading::load_prefix;
+pub use reading::{load_prefix, look_prefix};
 pub use real_folder::RealFolder;
 pub use real_sink::RealSink;
 pub use sink::Sink;

@@ -1,20 +1,21 @@
 //! A folder in memory, with faults where they are chosen.
-ghost use Rattle.std.specs.Prelude.{◌≡◌, ◌∷◌, ◌≢◌, ◌≤◌, ◌+◌, ◌==◌, ◌↔◌, Some, true, vec_len, IfOk, OnOk, OnErr};
+ghost use Rattle.std.specs.Prelude.{◌≡◌, ◌∷◌, ◌≢◌, ◌≤◌, ◌+◌, ◌==◌, ◌↔◌, Some, None, true, vec_len, Ok, IfOk, IfSome, OnOk, OnErr, option_map};
 ghost use Rattle.std.specs.List.{list_any};
 ghost use Rattle.outside.specs.Chosen.{no_files, load_fails, after_load};
 ghost use Rattle.outside.specs.Faults.{NeverFalls, RoseOrFull, shown, shown-bounded};
-ghost use Rattle.outside.specs.Files.{Gives, Lacks, file_of};
+ghost use Rattle.outside.specs.Files.{Gives, Lacks, Shows, file_of};
 
 use crate::fault::LoadFault;
 use crate::folder::Folder;
 use crate::next::is_next;
-use crate::stored::{StoredFile, make_file, read_stored};
+use crate::stored::{StoredFile, look_stored, make_file, read_stored};
 use sq_value::Memory;
 use std::alloc::Global;
 use std::marker::Model;
 
 /// A folder in memory, with faults where they are chosen. Seen as its files, the last one kept
-/// first, the loads that are chosen to fail, the loads made and the faults counted.
+/// first, the loads that are chosen to fail, the loads made and the faults counted. A look counts as
+/// a load.
 #[derive(Drop)]
 pub struct MemoryFolder {
     files: Vec<StoredFile>,
@@ -65,7 +66,7 @@ impl MemoryFolder {
         Ok(())
     }
 
-    /// Makes the load with this number fail; loads count from 1.
+    /// Makes the load or look with this number fail; both count together, from 1.
     ///
     /// # Errors
     /// `Memory`: there is no memory for the number. The folder is unchanged.
@@ -77,14 +78,14 @@ impl MemoryFolder {
         Ok(())
     }
 
-    /// How many loads failed.
+    /// How many loads and looks failed.
     pub fn faults(&self) -> u64
         ensures { result ≡ self.now.faults }
     {
         self.faults
     }
 
-    /// Counts a load, and whether it is one that is to fail.
+    /// Counts a load or a look, and whether it is one that is to fail.
     fn count_load(&mut self) -> bool
         ensures after { self.new ≡ after_load self.old }
         ensures fails { result ≡ load_fails self.old }
@@ -124,5 +125,30 @@ impl Folder for MemoryFolder {
             return Err(LoadFault::Failed);
         }
         read_stored(&self.files, alloc, name, limit)
+    }
+
+    fn look(
+        &mut self,
+        alloc: Global,
+        name: &str,
+        limit: usize,
+    ) -> Result<Option<Vec<u8>>, LoadFault>
+        ensures keeps { Some self.new.files ≡ Some self.old.files }
+        ensures counts { NeverFalls self.old.faults self.new.faults }
+        ensures within { IfOk result (λ found. IfSome found (λ bytes. vec_len bytes ≤ limit)) }
+        ensures shows { IfOk result (λ found.
+            Shows (Some self.old.files) name.now limit (option_map (λ bytes. bytes.items) found)) }
+        ensures never_absent { result ≢ Err LoadFault.Absent }
+        ensures failed { result ≡ Err LoadFault.Failed → RoseOrFull self.old.faults self.new.faults }
+        ensures kept { OnOk result (self.new.faults ≡ self.old.faults) }
+        ensures after { self.new ≡ after_load self.old }
+        ensures chosen { result ≡ Err LoadFault.Failed ↔ load_fails self.old ≡ true }
+        ensures lacking { load_fails self.old ≢ true → Lacks (Some self.old.files) name.now
+            → result ≡ Ok None }
+    {
+        if self.count_load() {
+            return Err(LoadFault::Failed);
+        }
+        look_stored(&self.files, alloc, name, limit)
     }
 }

@@ -1,6 +1,7 @@
 //! The first bytes of a stream, which is read no further. Each call that fails is counted, and none
 //! is made again.
-ghost use Rattle.std.specs.Prelude.{◌≡◌, ◌≢◌, ◌+◌, ◌-◌, ◌*◌, ◌^◌, ◌<◌, ◌≤◌, ◌++◌, length, take, drop, None, vec_len, is_none, IfOk, IfSome, IfNone, OnOk, OnErr, if◌then◌else◌};
+ghost use Rattle.std.specs.Prelude.{◌≡◌, ◌≢◌, ◌+◌, ◌-◌, ◌*◌, ◌^◌, ◌<◌, ◌≤◌, ◌++◌, length, take, drop, None, vec_len, is_none, IfOk, IfSome, IfNone, OnOk, OnErr, IfErr, IsSomeAnd, Some, Ok, ◌↔◌, true, false, if◌then◌else◌};
+ghost use Rattle.std.specs.IoError.{error_kind};
 ghost use Rattle.std.specs.Io.{StartsWith, appended_bytes};
 ghost use Rattle.std.specs.Io.KnownBytes.{Consumes, IsAtEnd, Keeps};
 ghost use Rattle.outside.specs.Faults.{raised};
@@ -10,7 +11,7 @@ use crate::counted::counted;
 use crate::fault::LoadFault;
 use std::alloc::Global;
 use std::io;
-use std::io::Read;
+use std::io::{ErrorKind, Read};
 
 /// The least and the most bytes that one call is asked for, but for the last of a file.
 const LEAST_PIECE: usize = 8 * 1024;
@@ -124,5 +125,47 @@ pub fn load_prefix<R: Read + Drop>(
     match counted(opened, faults) {
         Some(mut reader) => read_prefix(&mut reader, alloc, limit, faults),
         None => Err(LoadFault::Failed),
+    }
+}
+
+/// Whether the system said that there is no such file.
+fn is_lacking<R>(opened: &io::Result<R>) -> bool
+    ensures found { IfOk opened.now (λ _. result ≡ false) }
+    ensures lacking { IfErr opened.now (λ fault. result ≡ true ↔ error_kind fault ≡ ErrorKind.NotFound) }
+{
+    match opened {
+        Ok(_) => false,
+        Err(fault) => fault.kind() == ErrorKind::NotFound,
+    }
+}
+
+/// The first bytes of what was opened, at most `limit` of them, or None where there was no such
+/// file: what `RealFolder` sees of a file, from any stream.
+///
+/// # Errors
+/// - `Failed`: it is there and couldn't be opened, or reading failed. That call was counted.
+/// - `Memory`: there is no memory for the bytes.
+pub fn look_prefix<R: Read + Drop>(
+    opened: io::Result<R>,
+    alloc: Global,
+    limit: usize,
+    faults: &mut u64,
+) -> Result<Option<Vec<u8>>, LoadFault>
+    ensures within { IfOk result (λ found. IfSome found (λ bytes. vec_len bytes ≤ limit)) }
+    ensures prefix { IfOk opened (λ reader. IfOk result
+        (λ found. IsSomeAnd found (λ bytes. IsPrefixWithin (R.remaining reader) limit bytes.items))) }
+    ensures lacking { IfErr opened (λ fault. error_kind fault ≡ ErrorKind.NotFound → result ≡ Ok None) }
+    ensures unopened { IfErr opened (λ fault. error_kind fault ≢ ErrorKind.NotFound
+        → result ≡ Err LoadFault.Failed) }
+    ensures failed { result ≡ Err LoadFault.Failed → faults.new ≡ raised faults.old }
+    ensures kept { result ≢ Err LoadFault.Failed → faults.new ≡ faults.old }
+    ensures never_absent { result ≢ Err LoadFault.Absent }
+{
+    if is_lacking(&opened) {
+        return Ok(None);
+    }
+    match load_prefix(opened, alloc, limit, faults) {
+        Ok(bytes) => Ok(Some(bytes)),
+        Err(fault) => Err(fault),
     }
 }

@@ -1,5 +1,5 @@
 //! Files that a folder keeps in memory.
-ghost use Rattle.std.specs.Prelude.{◌≡◌, ◌≢◌, ◌≤◌, ◌↔◌, None, Some, take, vec_len, IfOk, option_map, option_copied};
+ghost use Rattle.std.specs.Prelude.{◌≡◌, ◌≢◌, ◌≤◌, ◌↔◌, None, Some, take, vec_len, Ok, IfOk, IfSome, option_map, option_copied};
 ghost use Rattle.outside.specs.Files.{lookup, file_of};
 
 use crate::fault::LoadFault;
@@ -68,4 +68,29 @@ pub(crate) fn read_stored(
         return Err(LoadFault::Absent);
     };
     Ok(Vec::from_slice(alloc, &bytes[..limit.min(bytes.len())])?)
+}
+
+/// The first bytes of the first file of that name, at most `limit` of them, or None where there is
+/// no such file.
+///
+/// # Errors
+/// `Memory`: there is no memory for the bytes.
+pub(crate) fn look_stored(
+    files: &[StoredFile],
+    alloc: Global,
+    name: &str,
+    limit: usize,
+) -> Result<Option<Vec<u8>>, LoadFault>
+    ensures within { IfOk result (λ found. IfSome found (λ bytes. vec_len bytes ≤ limit)) }
+    ensures shows { IfOk result (λ found.
+        option_map (take limit) (lookup files.now name.now) ≡ option_map (λ bytes. bytes.items) found) }
+    ensures lacking { lookup files.now name.now ≡ None → result ≡ Ok None }
+    ensures never_absent { result ≢ Err LoadFault.Absent }
+    ensures never_fails { result ≢ Err LoadFault.Failed }
+{
+    match read_stored(files, alloc, name, limit) {
+        Ok(bytes) => Ok(Some(bytes)),
+        Err(LoadFault::Absent) => Ok(None),
+        Err(fault) => Err(fault),
+    }
 }

@@ -1,11 +1,11 @@
 //! A folder in memory no load of which fails.
-ghost use Rattle.std.specs.Prelude.{◌≡◌, [], ◌∷◌, ◌≢◌, ◌≤◌, ◌↔◌, None, Some, vec_len, IfOk, OnOk, OnErr};
-ghost use Rattle.outside.specs.Files.{Gives, file_of, lookup};
+ghost use Rattle.std.specs.Prelude.{◌≡◌, [], ◌∷◌, ◌≢◌, ◌≤◌, ◌↔◌, None, Some, vec_len, Ok, IfOk, IfSome, OnOk, OnErr, option_map};
+ghost use Rattle.outside.specs.Files.{Gives, Shows, file_of, lookup};
 ghost use Rattle.outside.specs.Faults.{shown-bounded};
 
 use crate::fault::LoadFault;
 use crate::folder::Folder;
-use crate::stored::{StoredFile, make_file, read_stored};
+use crate::stored::{StoredFile, look_stored, make_file, read_stored};
 use sq_value::Memory;
 use std::alloc::Global;
 use std::marker::Model;
@@ -65,5 +65,22 @@ impl Folder for SureFolder {
         ensures never_fails { result ≢ Err LoadFault.Failed }
     {
         read_stored(&self.files, alloc, name, limit)
+    }
+
+    fn look(
+        &mut self,
+        alloc: Global,
+        name: &str,
+        limit: usize,
+    ) -> Result<Option<Vec<u8>>, LoadFault>
+        ensures keeps { self.new ≡ self.old }
+        ensures within { IfOk result (λ found. IfSome found (λ bytes. vec_len bytes ≤ limit)) }
+        ensures shows { IfOk result (λ found.
+            Shows (Some self.old) name.now limit (option_map (λ bytes. bytes.items) found)) }
+        ensures lacking { lookup self.old name.now ≡ None → result ≡ Ok None }
+        ensures never_absent { result ≢ Err LoadFault.Absent }
+        ensures never_fails { result ≢ Err LoadFault.Failed }
+    {
+        look_stored(&self.files, alloc, name, limit)
     }
 }

@@ -3,11 +3,13 @@ use Rattle.std.proofs.Common.{◌≡◌, ℕ, zero, suc, ◌+◌, ◌*◌, ◌<�
 use Rattle.std.specs.Prelude.{option_and_then, slice_get, All, IfSome}
 use Rattle.std.proofs.lemmas.List.{take-append-le, drop-append-le, length-append, length-drop, take_all}
 use Rattle.std.proofs.lemmas.Option.{slice_get-get_or, slice_get_within, get_or_from_slice_get}
-use Rattle.std.proofs.lemmas.List.Elements.{All-push, All-same}
+use Rattle.std.proofs.lemmas.List.Elements.{All-append, All-push, All-same}
 use Rattle.std.proofs.lemmas.Nat.{mul-add-lt}
 use Rattle.sq_value.specs.Relation.{IsRow, HasKind, rows_of}
 use Rattle.sq_value.specs.declared.value.Value.{Value}
+use Rattle.sq_value.specs.Flat.{IsFlat}
 use Rattle.sq_value.specs.declared.table.Column.{Column}
+use Rattle.sq_value.specs.declared.table.Table.TheInside.{Inside}
 
 -- as many rows as were asked for
 pub length-rows_of : (w n : ℕ) (vs : List Value) → length (rows_of w n vs) ≡ n
@@ -29,6 +31,22 @@ rows_of-push w (suc n) vs row e f =
     ap (λ (r : List Value). r ∷ rows_of w (suc n) (drop w (vs ++ row))) front
     ∙ ap (λ (more : List Value). take w vs ∷ rows_of w (suc n) more) back
     ∙ ap (λ (rs : List (List Value)). take w vs ∷ rs) (rows_of-push w n (drop w vs) row left f)
+
+-- rows behind rows
+pub rows_of-append : (w n m : ℕ) (vs ws : List Value) → length vs ≡ n * w → rows_of w (n + m) (vs ++ ws) ≡ rows_of w n vs ++ rows_of w m ws
+unfolding rows_of
+rows_of-append w zero m [] ws e =
+    let same : zero + m ≡ m = omega arith in
+    ap (λ (k : ℕ). rows_of w k ws) same
+rows_of-append w zero m (v ∷ vs) ws e = absurd (omega arith)
+rows_of-append w (suc n) m vs ws e =
+    let long : w ≤ length vs = omega arith in
+    let left : length (drop w vs) ≡ n * w = omega (arith, length-drop w vs) in
+    let same : suc n + m ≡ suc (n + m) = omega arith in
+    ap (λ (k : ℕ). rows_of w k (vs ++ ws)) same
+    ∙ ap (λ (r : List Value). r ∷ rows_of w (n + m) (drop w (vs ++ ws))) (take-append-le w vs ws long)
+    ∙ ap (λ (more : List Value). take w vs ∷ rows_of w (n + m) more) (drop-append-le w vs ws long)
+    ∙ ap (λ (rs : List (List Value)). take w vs ∷ rs) (rows_of-append w n m (drop w vs) ws left)
 
 -- what stands behind a front
 slice_get-drop : {X : Type 0} (n : ℕ) (xs : List X) (i : ℕ) → slice_get (drop n xs) i ≡ slice_get xs (n + i)
@@ -126,3 +144,31 @@ IsPushed-append cs n vs row ws e f all h =
       rows = rows;
       each = All-same (IsRow cs) _ _ rows (All-push (IsRow cs) (rows_of (length cs) n vs) row all h);
     }
+
+-- what the rows of another table behind its own leave
+pub record IsJoined (cs : List Column) (n m : ℕ) (vs us ws : List Value) : Type 0 where
+  pub full : length ws ≡ (n + m) * length cs
+  pub rows : rows_of (length cs) (n + m) ws ≡ rows_of (length cs) n vs ++ rows_of (length cs) m us
+  pub each : All (IsRow cs) (rows_of (length cs) (n + m) ws)
+
+-- what moving all rows of another table leaves
+pub IsJoined-append : (cs : List Column) (n m : ℕ) (vs us ws : List Value) → ws ≡ vs ++ us → length vs ≡ n * length cs → length us ≡ m * length cs
+    → All (IsRow cs) (rows_of (length cs) n vs) → All (IsRow cs) (rows_of (length cs) m us) → IsJoined cs n m vs us ws
+IsJoined-append cs n m vs us ws e f g all more =
+    let rows : rows_of (length cs) (n + m) ws ≡ rows_of (length cs) n vs ++ rows_of (length cs) m us =
+    ap (rows_of (length cs) (n + m)) e ∙ rows_of-append (length cs) n m vs us f in
+    record {
+      full = ap (length {A = Value}) e ∙ omega (arith, length-append vs us, f, g);
+      rows = rows;
+      each = All-same (IsRow cs) _ _ rows (All-append (IsRow cs) (rows_of (length cs) n vs) (rows_of (length cs) m us) all more);
+    }
+
+-- the same of two flat tables of the same columns
+pub IsJoined-flat : (s o : Inside) (vs : List Value) → IsFlat s → IsFlat o → o.columns.items ≡ s.columns.items → vs ≡ s.values.items ++ o.values.items
+    → IsJoined s.columns.items s.rows o.rows s.values.items o.values.items vs
+IsJoined-flat s o vs f g same e =
+    let wide : length o.values.items ≡ o.rows * length s.columns.items =
+    subst (λ (cs : List Column). length o.values.items ≡ o.rows * length cs) same g.full in
+    let each : All (IsRow s.columns.items) (rows_of (length s.columns.items) o.rows o.values.items) =
+    subst (λ (cs : List Column). All (IsRow cs) (rows_of (length cs) o.rows o.values.items)) same g.each in
+    IsJoined-append _ _ _ _ _ _ e f.full wide f.each each

@@ -1,3 +1,4 @@
+pub mod ColumnLemmas
 pub mod DecimalLemmas
 pub mod FlatLemmas
 pub mod NumeralLemmas

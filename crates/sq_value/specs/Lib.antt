@@ -7,5 +7,6 @@ pub mod Key
 pub mod Numeral
 pub mod Decimal
 pub mod Relation
+pub mod Columns
 pub mod Flat
 pub mod Text

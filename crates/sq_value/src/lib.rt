@@ -4,6 +4,7 @@
 //! three truth values. A table is a list of rows over typed columns.
 #![tactic(auto)]
 
+mod columns;
 mod decimal;
 mod decimal_reading;
 mod decimal_writing;
@@ -19,6 +20,7 @@ mod tables;
 mod text;
 mod value;
 
+pub use columns::same_columns;
 pub use decimal::{Dec, DecFault, millionths, number_law};
 pub use decimal_reading::read_decimal;
 pub use decimal_writing::{push_decimal, written_law};

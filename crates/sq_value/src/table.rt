@@ -1,5 +1,5 @@
 //! Tables: typed columns and rows.
-ghost use Rattle.std.specs.Prelude.{◌≡◌, [], ◌∷◌, ◌++◌, ◌<◌, length, Some, IfOk, IfSome, OnOk, OnErr, All, slice_get};
+ghost use Rattle.std.specs.Prelude.{◌≡◌, [], ◌∷◌, ◌++◌, ◌+◌, ◌<◌, length, Some, IfOk, IfSome, OnOk, OnErr, All, slice_get};
 
 use crate::memory::Memory;
 use crate::text::SqText;
@@ -99,6 +99,25 @@ impl Table {
     {
         self.values.append(row)?;
         self.rows += 1;
+        Ok(())
+    }
+
+    /// Moves all rows of a table of the same columns behind its own, in their order, and leaves the
+    /// other one without rows. Together they have at most 4,294,967,295.
+    ///
+    /// # Errors
+    /// `Memory`: there is no memory for the rows. Both tables are unchanged.
+    pub fn append(&mut self, other: &mut Table) -> Result<(), Memory>
+        requires columns { other.old.columns ≡ self.old.columns }
+        requires room { length self.old.rows + length other.old.rows < 4294967296 }
+        ensures ok { OnOk result (self.new ≡ record self.old { rows = self.old.rows ++ other.old.rows }) }
+        ensures moved { OnOk result (other.new ≡ record other.old { rows = [] }) }
+        ensures err { OnErr result (self.new ≡ self.old) }
+        ensures kept { OnErr result (other.new ≡ other.old) }
+    {
+        self.values.append(&mut other.values)?;
+        self.rows += other.rows;
+        other.rows = 0;
         Ok(())
     }
 

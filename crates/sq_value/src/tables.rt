@@ -1,10 +1,11 @@
 //! The tables of a run.
-ghost use Rattle.std.specs.Prelude.{◌≡◌, [], ◌∷◌, ◌++◌, ◌<◌, length, Some, OnOk, OnErr, slice_get};
+ghost use Rattle.std.specs.Prelude.{◌≡◌, [], ◌∷◌, ◌++◌, ◌<◌, length, set, Some, IfSome, OnOk, OnErr, slice_get};
 
 use crate::memory::Memory;
 use crate::table::Table;
 use std::alloc::Global;
 use std::marker::Model;
+use std::mem;
 
 /// The tables of a run, by number from 0 in the order in which they were pushed.
 #[derive(Debug, Drop)]
@@ -59,5 +60,16 @@ impl Tables {
         ensures { slice_get self.now table ≡ Some result.now }
     {
         &self.tables[table as usize]
+    }
+
+    /// Puts a table at the place of another, whose columns it has, and gives the other one. The
+    /// number is in range.
+    pub fn set(&mut self, table: u32, new: Table) -> Table
+        requires there { table < length self.old }
+        requires columns { IfSome (slice_get self.old table) (λ old. new.columns ≡ old.columns) }
+        ensures replaced { self.new ≡ set self.old table new }
+        ensures given { slice_get self.old table ≡ Some result }
+    {
+        mem::replace(&mut self.tables[table as usize], new)
     }
 }

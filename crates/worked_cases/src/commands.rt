@@ -14,7 +14,8 @@ fn command_of(alloc: Global, line: &str) -> Result<Result<Command, WordsFault>, 
     Ok(read_command(alloc, &words))
 }
 
-// Lines that are in form, among them a name of 64 bytes and 16 tables, and lines that aren't, with 65 and 17.
+// Lines that are in form, among them names of 64 bytes, 16 tables and remotes, and 4 remotes, and lines that
+// aren't, with 65, 17 and 5.
 const IN_FORM: &str = "\
 q n=f
 _ n=f
@@ -47,6 +48,13 @@ q n=f --workers 2
 --index n.c.d q n=f
 --index n.c,m.d q n=f m=g
 --index n.c --lookup m.d q n=f m=g
+--remote v.who=v/ q n=f
+--remote=v.who=v/,w.x.y=a=b q n=f
+--remote v.c==p q n=f
+--remote a.c=p,b.c=p,c.c=p,d.c=p q n=f
+--remote v.c=p --lookup n.c q n=f
+--remote abcdefghijklmnopqrstuvwxyzabcdefghijklmnopqrstuvwxyzabcdefghijkl.c=p q n=f
+--remote w.c=p,x.c=p,y.c=p,z.c=p q a=1 b=1 c=1 d=1 e=1 f=1 g=1 h=1 i=1 j=1 k=1 l=1
 --tally q n=f
 q --tally n=f
 q n=f --tally
@@ -112,6 +120,27 @@ q n=f --cache
 --index n.c,N.d q n=f
 --index n.c --lookup n.d q n=f
 --index n.c --index m.d q n=f m=g
+--remote _ q n=f
+--remote= q n=f
+--remote v q n=f
+--remote v. q n=f
+--remote v.c q n=f
+--remote v=p q n=f
+--remote v.=p q n=f
+--remote v.c= q n=f
+--remote .c=p q n=f
+--remote 1v.c=p q n=f
+--remote N.c=p q n=f
+--remote v.c=p,V.d=q q n=f
+--remote v.c=p, q n=f
+--remote v.c=p,,w.c=p q n=f
+--remote a.c=p,b.c=p,c.c=p,d.c=p,e.c=p q n=f
+--remote x.c=p,y.c=p q a=1 b=1 c=1 d=1 e=1 f=1 g=1 h=1 i=1 j=1 k=1 l=1 m=1 n=1 o=1
+--remote v.c=p --remote w.c=p q n=f
+--remote v.c=p --lookup v.c q n=f
+--remote abcdefghijklmnopqrstuvwxyzabcdefghijklmnopqrstuvwxyzabcdefghijklm.c=p q n=f
+--demo 5 --remote v.c=p
+q n=f --remote
 --tally --tally q n=f
 --tally=true q n=f
 --other q n=f
@@ -142,7 +171,7 @@ fn tells_words_in_form(rt: HostRuntime) -> Result<(), Fail> {
 #[test]
 fn reads_every_option(rt: HostRuntime) -> Result<(), Fail> {
     let line = "--lookup m.d,k.x --policy script q --seed 9 n=f --workers 4 M=g=h --route v0,b \
-                --tally k=l --index N.c.e --cache 3";
+                --tally k=l --index N.c.e --cache 3 --remote r.a.b=p=,S.c=t/";
     let Ok(command) = command_of(rt.alloc(), line)? else {
         return Err(Fail::new("not as given"));
     };
@@ -163,6 +192,12 @@ fn reads_every_option(rt: HostRuntime) -> Result<(), Fail> {
     for (access, (table, column, scan)) in query.accesses.as_slice().iter().zip(accesses) {
         assert!(rt; access.table == table && access.column.as_str() == column);
         assert_eq!(rt; access.scan, scan);
+    }
+    let remotes = [("r", "a.b", "p="), ("S", "c", "t/")];
+    assert_eq!(rt; query.remotes.len(), remotes.len());
+    for (remote, (name, column, prefix)) in query.remotes.as_slice().iter().zip(remotes) {
+        assert!(rt; remote.name.as_str() == name && remote.column.as_str() == column);
+        assert_eq!(rt; remote.prefix.as_str(), prefix);
     }
     Ok(())
 }

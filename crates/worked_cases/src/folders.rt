@@ -17,6 +17,20 @@ fn refused<F: Folder>(folder: &mut F, alloc: Global, name: &str) -> Option<LoadF
     folder.load(alloc, name, 9).err()
 }
 
+/// What a look through the trait alone shows: the bytes that came, `none`, or its fault.
+fn seen<F: Folder>(
+    folder: &mut F,
+    alloc: Global,
+    name: &str,
+    limit: usize,
+) -> Result<String, Memory> {
+    match folder.look(alloc, name, limit) {
+        Ok(Some(bytes)) => Ok(format!(in alloc; "{:?}", bytes.as_slice())?),
+        Ok(None) => Ok(String::from_str(alloc, "none")?),
+        Err(fault) => Ok(format!(in alloc; "{fault:?}")?),
+    }
+}
+
 /// A put through the trait alone.
 fn put_into<S: Sink>(sink: &mut S, piece: &[u8]) -> Result<(), PutFault> {
     sink.put(piece)
@@ -35,6 +49,34 @@ fn folders_give_what_they_keep(rt: HostRuntime) -> Result<(), Fail> {
     folder.keep("f", b"c")?;
     assert!(rt; gives(&mut folder, rt.alloc(), "f", 9, b"c"));
     assert!(rt; sure_folder_gives(rt.alloc())?);
+    Ok(())
+}
+
+#[test]
+fn a_look_shows_a_file_or_none(rt: HostRuntime) -> Result<(), Fail> {
+    let alloc = rt.alloc();
+    let mut folder = MemoryFolder::new(alloc);
+    folder.keep("f", b"ab")?;
+    folder.keep("empty", b"")?;
+    folder.fail_at(5)?;
+    folder.fail_at(7)?;
+    // Looks and loads count together: the sixth call is a load.
+    for (name, limit, wanted) in [
+        ("f", 9, "[97, 98]"),
+        ("f", 1, "[97]"),
+        ("empty", 9, "[]"),
+        ("g", 9, "none"),
+        ("f", 9, "Failed"),
+    ] {
+        assert_eq!(rt; seen(&mut folder, alloc, name, limit)?.as_str(), wanted);
+    }
+    assert!(rt; gives(&mut folder, alloc, "f", 9, b"ab") && folder.faults() == 1);
+    assert_eq!(rt; seen(&mut folder, alloc, "g", 9)?.as_str(), "Failed");
+    assert!(rt; folder.faults() == 2);
+    let mut sure = SureFolder::new(alloc);
+    sure.keep("f", b"ab")?;
+    assert_eq!(rt; seen(&mut sure, alloc, "f", 1)?.as_str(), "[97]");
+    assert_eq!(rt; seen(&mut sure, alloc, "g", 9)?.as_str(), "none");
     Ok(())
 }
 

@@ -1,6 +1,6 @@
 //! The real folder and sink over files, and over streams that fail where they are told. What is
 //! expected was worked out by hand.
-use outside::{Folder, LoadFault, PutFault, RealFolder, RealSink, Sink, load_prefix};
+use outside::{Folder, LoadFault, PutFault, RealFolder, RealSink, Sink, load_prefix, look_prefix};
 use std::alloc::{AllocError, Global};
 use std::io::{ErrorKind, Read, Write};
 use std::test::Fail;
@@ -50,6 +50,22 @@ fn is_failed<F: Folder>(folder: &mut F, alloc: Global, name: &str) -> bool {
     folder.load(alloc, name, 4).err() == Some(LoadFault::Failed)
 }
 
+/// Whether a look through the trait alone finds no file.
+fn finds_none<F: Folder>(folder: &mut F, alloc: Global, name: &str) -> bool {
+    match folder.look(alloc, name, 4) {
+        Ok(found) => found.is_none(),
+        Err(_) => false,
+    }
+}
+
+/// Whether a look through the trait alone finds these bytes.
+fn finds<F: Folder>(folder: &mut F, alloc: Global, name: &str, text: &[u8]) -> bool {
+    match folder.look(alloc, name, 4) {
+        Ok(Some(bytes)) => bytes.as_slice() == text,
+        _ => false,
+    }
+}
+
 /// Writes the text of 300,000 bytes, and another under the same name without its blanks.
 fn write_files(rt: &HostRuntime, name: &str) -> Result<(), Fail> {
     let text = text_of(rt.alloc(), 300_000)?;
@@ -72,6 +88,23 @@ fn files_are_loaded_by_their_whole_names_up_to_the_limit(rt: HostRuntime) -> Res
     assert!(rt; folder.faults() == 1);
     // A folder can be opened, and not read.
     assert!(rt; is_failed(&mut folder, rt.alloc(), "."));
+    assert!(rt; folder.faults() == 2);
+    Ok(())
+}
+
+#[test]
+fn a_file_that_is_not_there_is_none(rt: HostRuntime) -> Result<(), Fail> {
+    let name = "outside_test_look";
+    fs::write(&rt, name, "abcde")?;
+    let mut folder = RealFolder::new(&rt);
+    let found = finds(&mut folder, rt.alloc(), name, b"abcd");
+    fs::remove_file(&rt, name)?;
+    assert!(rt; found && finds_none(&mut folder, rt.alloc(), name));
+    assert!(rt; finds_none(&mut folder, rt.alloc(), "no_such_folder/1.csv"));
+    assert!(rt; folder.faults() == 0);
+    // A folder is there, and can't be read; nor has a file others below it.
+    assert!(rt; folder.look(rt.alloc(), ".", 4).err() == Some(LoadFault::Failed));
+    assert!(rt; folder.look(rt.alloc(), "/dev/null/1.csv", 4).err() == Some(LoadFault::Failed));
     assert!(rt; folder.faults() == 2);
     Ok(())
 }

@@ -109,6 +109,15 @@ impl Folder for NoRoom {
     fn load(&mut self, _alloc: Global, _name: &str, _limit: usize) -> Result<Vec<u8>, LoadFault> {
         Err(LoadFault::Memory)
     }
+
+    fn look(
+        &mut self,
+        _alloc: Global,
+        _name: &str,
+        _limit: usize,
+    ) -> Result<Option<Vec<u8>>, LoadFault> {
+        Err(LoadFault::Memory)
+    }
 }
 
 #[test]
