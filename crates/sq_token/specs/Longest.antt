@@ -1,5 +1,5 @@
--- What the tokens of a text are, said of the text alone: gap, token, gap and so on, where each token is the longest that
--- begins what is left.
+-- What the tokens of a text are, said of the text alone: gap, token, gap and so on, where each token is the longest
+-- that begins what is left.
 use Rattle.std.specs.Prelude.{◌≡◌, ◌≢◌, ◌⊎◌, ◌≤◌, ℕ, ◌+◌, true, false, List, [], ◌∷◌, ◌++◌, length, slice_index, codes, if◌then◌else◌, ◌==◌, ⊤}
 use Rattle.std.specs.List.{list_all, concat}
 use Rattle.sq_token.specs.declared.form.Class.TheVariants as class
@@ -38,18 +38,18 @@ IsOneOf [] z = ⊥
 IsOneOf (s ∷ more) z = (z ≡ s) ⊎ IsOneOf more z
 
 -- a word begins with no digit
-abbrev pub IsWord : Text → Type 0
-IsWord [] = ⊥
-IsWord (b ∷ z) = (is_in class.Digit b ≡ false) × (list_all (is_in class.Word) (b ∷ z) ≡ true)
+abbrev pub IsWordToken : Text → Type 0
+IsWordToken [] = ⊥
+IsWordToken (b ∷ z) = (is_in class.Digit b ≡ false) × (list_all (is_in class.Word) (b ∷ z) ≡ true)
 
-abbrev pub IsNumber : Text → Type 0
-IsNumber [] = ⊥
-IsNumber (b ∷ z) = list_all (is_in class.Digit) (b ∷ z) ≡ true
+abbrev pub IsNumberToken : Text → Type 0
+IsNumberToken [] = ⊥
+IsNumberToken (b ∷ z) = list_all (is_in class.Digit) (b ∷ z) ≡ true
 
 -- a token of a form, before what follows it
 abbrev pub IsToken : Form → Text → Text → Type 0
-IsToken form.Word token rest = IsWord token
-IsToken form.Number token rest = IsNumber token
+IsToken form.Word token rest = IsWordToken token
+IsToken form.Number token rest = IsNumberToken token
 IsToken form.Delimited token rest = IsQuoted 34 1 token rest
 IsToken form.Text token rest = IsQuoted 39 0 token rest
 IsToken form.Symbol token rest = IsOneOf symbols token
@@ -102,8 +102,8 @@ pub record NoGap (z : Text) : Type 0 where
 
 -- ---- the tokens
 
--- A text from a place on is a gap, and where there are tokens then the first of them, as the longest that begins what is
--- left, and the others. Where no token begins what is left, one byte of it is the last token, and of the form Bad.
+-- A text from a place on is a gap, and where there are tokens then the first of them, as the longest that begins what
+-- is left, and the others. Where no token begins what is left, one byte of it is the last token, and of the form Bad.
 abbrev pub AreTokens : ℕ → Text → List Piece → Type 0
 AreTokens at z [] = IsGap z []
 AreTokens at z (p ∷ ps) =
