@@ -95,6 +95,23 @@ fn two_seats_take_turns(rt: HostRuntime) -> Result<(), Fail> {
 }
 
 #[test]
+fn one_seat_claims_and_draws(rt: HostRuntime) -> Result<(), Fail> {
+    let (board, mut seats) = board_of(rt.alloc(), 1, 0, &[3], 1)?;
+    let list = seats.as_mut_slice();
+    let claims = [
+        claim_by(&board, list, 0),
+        claim_by(&board, list, 0),
+        claim_by(&board, list, 0),
+        claim_by(&board, list, 0),
+    ];
+    assert_eq!(rt; claims, [Some(0), Some(1), Some(2), None]);
+    assert!(rt; enter_by(&rt, &board, list, 0, 0));
+    let closed = board.close(seats);
+    assert_eq!(rt; closed.modules[0].entries.as_slice(), [(0, 0)].as_slice());
+    Ok(())
+}
+
+#[test]
 fn two_threads_claim_each_row_once(rt: HostRuntime) -> Result<(), Fail> {
     let (board, mut seats) = board_of(rt.alloc(), 2, 0, &[500, 300], 2)?;
     drain_all(&rt, &board, seats.as_mut_slice(), 2, 0);

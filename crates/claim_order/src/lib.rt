@@ -17,6 +17,6 @@ mod sets;
 mod surveying;
 
 pub use claims::{AnyClaims, Claims, ClaimsInOrder, ClaimsInTurn};
-pub use listing::rows_scanned;
+pub use listing::{rows_scanned, rows_together};
 pub use own::fails_own;
 pub use surveying::{claims_for, order_for, survey};

@@ -1,5 +1,6 @@
 //! Sets of aliases: bit a stands for alias a.
 ghost use Rattle.std.specs.Prelude.{◌≡◌, ◌<◌, ◌↔◌, IsTrue, IsBitSet};
+ghost use Rattle.claim_order.specs.Claiming.{IsFirstFrom, IsNextInTurn};
 
 /// The set of one alias; none where there can be no such alias.
 pub(crate) fn only(alias: u8) -> u16 {
@@ -23,7 +24,7 @@ pub(crate) fn contains(set: u16, alias: u8) -> bool {
 pub(crate) fn first_of(set: u16) -> u8
     requires some { 0 < set }
     requires few { set < 4096 }
-    ensures among { IsBitSet set result }
+    ensures first { IsFirstFrom 0 set result }
     ensures below { result < 12 }
 {
     set.trailing_zeros() as u8
@@ -33,7 +34,7 @@ pub(crate) fn first_of(set: u16) -> u8
 pub(crate) fn first_from(set: u16, from: u8) -> u8
     requires some { 0 < set }
     requires few { set < 4096 }
-    ensures among { IsBitSet set result }
+    ensures next { IsNextInTurn from set result }
     ensures below { result < 12 }
 {
     for alias in from..12 {

@@ -25,7 +25,8 @@ k id:int/1/2";
 ///
 /// A tuple of `w` is through before the next one arrives, so the calls come in the order of its rows. Calls inside a
 /// condition aren't asked of the cache. In the joins tuples of one alias and of both are tested, each row of `w` at
-/// least once; a row that is looked up is built before its key is ended, so that no test at an end is counted.
+/// least once; a row that is looked up is built before its key is ended, so that no test at an end is counted. In the
+/// last case each of the four rows is dropped, and is tested once more at the end of its key, without the cache.
 const CASES: &str = "\
 2 2 4 | s s | SELECT x FROM w WHERE p(x, 2) | lottery 2
 1 3 4 | s s | SELECT x FROM w WHERE p(x, 2) | lottery 1
@@ -40,7 +41,8 @@ const CASES: &str = "\
 + 2 4 | s s | SELECT x FROM k, w WHERE id = x AND p(x, 2) | pressure 4
 + 2 4 | 0 s | SELECT x FROM k, w WHERE id = x AND p(x, 2) | lottery 4
 + 2 4 | 0 s | SELECT x FROM k, w WHERE id = x AND p(x, 2) | pressure 4
-+ 2 4 | 0 s | SELECT x FROM k, w WHERE id = x AND p(x, 2) | v0 2";
++ 2 4 | 0 s | SELECT x FROM k, w WHERE id = x AND p(x, 2) | v0 2
+2 6 0 | 0 s | SELECT x FROM k, w WHERE id = x AND p(x, 2) AND x = 9 | s1,s2,b,v0 2";
 
 /// What is said of a run that found something else than the bag, or of a text without a block.
 const OTHER: &str = "another bag";

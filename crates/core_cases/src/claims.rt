@@ -97,6 +97,9 @@ fn surveys_are_of_many_rows(rt: HostRuntime) -> Result<(), Fail> {
         (4097, "SELECT x FROM a", false, false),
         (4094, "SELECT x FROM a, b", true, false),
         (4095, "SELECT x FROM a, b", true, true),
+        (2100, "SELECT o.x FROM a o, a p", true, false),
+        (4096, "SELECT o.x FROM a o, a p", true, false),
+        (4097, "SELECT o.x FROM a o, a p", true, true),
     ] {
         let said = is_surveyed(rt.alloc(), rows, text, asked)?;
         assert_eq!(rt; said, surveyed, "of {rows} rows by {text}");

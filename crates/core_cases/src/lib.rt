@@ -22,8 +22,6 @@ mod policies;
 #[cfg(test)]
 mod sample;
 #[cfg(test)]
-mod shown;
-#[cfg(test)]
 mod single;
 #[cfg(test)]
 mod wanting;

@@ -5,8 +5,7 @@ ghost use Rattle.sq_expr.specs.Reach.{IsReachable};
 
 use crate::compared::is_bag;
 use crate::sample::{Case, cut, digits_of};
-use crate::shown::log_text;
-use case_kit::{block_of_case, catalogue_of_lines};
+use case_kit::{block_of_case, catalogue_of_lines, push_listed};
 use eddy_core::run_one;
 use route_policy::{AnyPolicy, Greedy, Lottery, Policy, Pressure, RouteScript};
 use sq_expr::Block;
@@ -44,17 +43,18 @@ const BOUNDS: &str = "\
 6 3 3 | s 1 s s | SELECT name, amt FROM cust c, ord o WHERE c.id = o.cid | 4
 6 2 3 | 0 s s s | SELECT name, amt FROM ord o, cust c WHERE o.cid = c.id | 4";
 
-/// What a run by look-ups finds: the rows with their stamps; the build log; and the looked keys as alias:key, in
-/// millionths.
-const LOOKED: &str = "\
-found 0,0@1 0,1@2 1,2@4
-alias 0 row 0 stamp 0
-alias 1 row 0 stamp 1
-alias 1 row 1 stamp 2
-alias 0 row 1 stamp 3
-alias 1 row 2 stamp 4
-alias 0 row 2 stamp 5
-keys 1:1000000 1:2000000 1:3000000";
+/// Runs by a script, each told whole. First what is wanted: the rows of the first two aliases of each combination with
+/// its stamp, in the order of finding; the build log, as alias:row in the order of the stamps; and the looked keys as
+/// alias:key, in millionths. Then a bar, the ways of the tables, a bar, the statement, a bar, and the script.
+///
+/// By scans a row of each alias is claimed in turn. The rows of an asked key come before the next claim. By the script
+/// `a0,a1` a row is joined with all that were built before it, and then selected: the last tuple first, so that of the
+/// last row of `b` with that of `a` before it is found before that with the first.
+const RUNS: &str = "\
+0,0@1 0,1@3 1,2@5; 0:0 1:0 0:1 1:1 0:2 1:2 1:3; | s s s s | SELECT name, amt FROM cust c, ord o WHERE c.id = o.cid | v0
+0,0@1 0,1@2 1,2@4; 0:0 1:0 1:1 0:1 1:2 0:2; 1:1000000 1:2000000 1:3000000 | s 1 s s \
+    | SELECT name, amt FROM cust c, ord o WHERE c.id = o.cid | v0
+0,1@3 1,2@5 0,2@5; 0:0 1:0 0:1 1:1 0:2 1:2; | s s s s | SELECT a.x FROM n a, n b WHERE a.x < b.x | a0,a1";
 
 /// The policies, as words.
 pub const POLICIES: &str = "lottery pressure greedy v0 a0,a1 b,a1,v0";
@@ -171,31 +171,46 @@ fn bound_said(alloc: Global, case: &Case<'_>, word: &str) -> Result<String, Fail
     }
 }
 
-// What a run by the script `v0` answers, as text.
+// What a run by a script answers, as text.
 fn answer_of<F: Predicates>(
     alloc: Global,
     block: &Block,
     tables: &Tables,
     functions: &F,
+    script: &str,
 ) -> Result<String, Fail>
     requires fits { IsFit (F.kinds_of functions.now) tables.now block.now }
     requires reachable { IsReachable block.now }
 {
-    let mut policy = policy_of("v0");
+    let mut policy = policy_of(script);
     let a = run_one(alloc, block, tables, &mut policy, functions)?;
-    let mut told = String::from_str(alloc, "found")?;
+    let mut told = String::new(alloc);
     for combo in a.combos.as_slice() {
         let (first, second, stamp) = (combo.rows[0], combo.rows[1], combo.stamp);
-        told.push_str(format!(in alloc; " {first},{second}@{stamp}")?.as_str())?;
+        let said = format!(in alloc; "{first},{second}@{stamp}")?;
+        push_listed(&mut told, " ", said.as_str())?;
     }
-    let log = log_text(alloc, a.built.as_slice())?;
-    told.push_str(format!(in alloc; "\n{log}\nkeys")?.as_str())?;
+    told.push(';')?;
+    for built in a.built.as_slice() {
+        let (alias, row) = (built.alias, built.row);
+        told.push_str(format!(in alloc; " {alias}:{row}")?.as_str())?;
+    }
+    told.push(';')?;
     for key in a.looked.as_slice() {
         let alias = key.alias;
         let digits = digits_of(&key.key);
         told.push_str(format!(in alloc; " {alias}:{digits}")?.as_str())?;
     }
     Ok(told)
+}
+
+// What the run of a case answers, as text.
+fn run_said(alloc: Global, case: &Case<'_>) -> Result<String, Fail> {
+    let catalogue = catalogue_of_lines(alloc, TABLES)?;
+    match block_of_case(alloc, &catalogue, case.ways, case.text, &NoPredicates)? {
+        Some(block) => answer_of(alloc, &block, catalogue.tables(), &NoPredicates, case.how),
+        None => Ok(String::from_str(alloc, "no block")?),
+    }
 }
 
 #[test]
@@ -221,15 +236,11 @@ fn cases_are_within_bounds_under_each_policy(rt: HostRuntime) -> Result<(), Fail
 }
 
 #[test]
-fn a_run_by_look_ups_answers_as_worked_out(rt: HostRuntime) -> Result<(), Fail> {
-    let alloc = rt.alloc();
-    let catalogue = catalogue_of_lines(alloc, TABLES)?;
-    let text = "SELECT name, amt FROM cust c, ord o WHERE c.id = o.cid";
-    if let Some(block) = block_of_case(alloc, &catalogue, "s 1 s s", text, &NoPredicates)? {
-        let told = answer_of(alloc, &block, catalogue.tables(), &NoPredicates)?;
-        assert_eq!(rt; told.as_str(), LOOKED);
-        return Ok(());
+fn runs_answer_as_worked_out(rt: HostRuntime) -> Result<(), Fail> {
+    for line in RUNS.lines() {
+        let case = cut(line);
+        let told = run_said(rt.alloc(), &case)?;
+        assert_eq!(rt; told.as_str(), case.want, "of {line}");
     }
-    assert_eq!(rt; "no block", "a block");
     Ok(())
 }

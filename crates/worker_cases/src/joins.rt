@@ -27,6 +27,7 @@ const CASES: &str = "\
 8 0 0,0 0,1 1,1 2,2 | s s s s | SELECT o.oid FROM ord o, ord p WHERE o.cid = p.cid AND o.oid <= p.oid
 6 3 0,0 0,1 1,2 | s 1 s s | SELECT name, amt FROM cust c, ord o WHERE c.id = o.cid
 6 2 0,0 1,0 2,1 | 0 s s s | SELECT name, amt FROM ord o, cust c WHERE o.cid = c.id
+6 0 0,1 0,2 1,2 | s s s s | SELECT a.x AS p, b.x AS q FROM n a, n b WHERE a.x < b.x
 3 0 0,0 1,0 2,0 | s s s s | SELECT x FROM n
 0 0 | s s s s | SELECT x FROM e";
 

@@ -165,3 +165,42 @@ fn joins_with_a_cache(rt: HostRuntime) -> Result<(), Fail> {
     }
     Ok(())
 }
+
+// The hits that a line of counts ends with.
+fn hits_in(line: &[u8]) -> Option<u64> {
+    let text = str::from_utf8(line).ok()?;
+    let (_counts, hits) = text.trim_end().split_once(" hits ")?;
+    hits.parse().ok()
+}
+
+// The hits of a run by two workers with a cache each, over 300 rows of three numbers.
+fn hits_of_two<R: Threads + Wait + Sync>(rt: &R, alloc: Global) -> Result<Option<u64>, Fail> {
+    let mut table = String::from_str(alloc, "x\n")?;
+    for row in 0..300_u32 {
+        let x = row % 3 + 1;
+        table.push_str(format!(in alloc; "{x}\n")?.as_str())?;
+    }
+    let mut folder = MemoryFolder::new(alloc);
+    folder.keep("q", b"SELECT x FROM z WHERE divides(x, 6)")?;
+    folder.keep("z", table.as_bytes())?;
+    let mut words = Vec::new(alloc);
+    for word in "eddyql --workers 2 --cache 3 --tally q z=z".split(' ') {
+        words.push(String::from_str(alloc, word)?)?;
+    }
+    let out = MemorySink::with_room(alloc, 999)?;
+    let notes = MemorySink::with_room(alloc, 999)?;
+    let host = Host {
+        rt,
+        alloc,
+        gate: &NoGate,
+    };
+    let mut outputs = Outputs { out, notes };
+    let _ended = program_as_shipped(&host, &words, &mut folder, &mut outputs);
+    Ok(hits_in(outputs.notes.written()))
+}
+
+#[test]
+fn workers_hit(rt: HostRuntime) -> Result<(), Fail> {
+    assert!(rt; hits_of_two(&rt, rt.alloc())? > Some(0));
+    Ok(())
+}
