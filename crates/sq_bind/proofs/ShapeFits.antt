@@ -32,7 +32,7 @@ use Rattle.sq_bind.proofs.RestFits.{each_also}
 
 -- ---- cells of a grouped statement have one value in each group
 
-abbrev IsSettled : List ColumnOf → Cell → Type 0
+abbrev pub IsSettled : List ColumnOf → Cell → Type 0
 IsSettled keys cell = is_settled keys cell ≡ true
 
 all_settled : (keys : List ColumnOf) (cells : List Cell) → list_all (is_settled keys) cells ≡ true → Each (IsSettled keys) cells
@@ -64,7 +64,7 @@ unfolding cells_of
 selected_settled aliases keys star items.Star e = settled keys star (cells_of aliases items.Star) e
 selected_settled aliases keys star (items.List list) e = items_settled aliases keys list e
 
-grouped_settled : (aliases : List Alias) (s : Statement) → grouped_faults aliases s ≡ [] → is_grouped s ≡ true
+pub grouped_settled : (aliases : List Alias) (s : Statement) → grouped_faults aliases s ≡ [] → is_grouped s ≡ true
     → Each (IsSettled (grouping_of aliases s.groups)) (cells_of aliases s.items)
 unfolding grouped_faults
 grouped_settled aliases s e is = by (is_grouped s) is e
