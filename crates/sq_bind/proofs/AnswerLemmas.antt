@@ -1,19 +1,18 @@
 -- What the answers of the rounds say together, and that a statement has one answer.
-use Rattle.std.proofs.Common.{◌≡◌, ◌≢◌, ◌⊎◌, inl, inr, ℕ, zero, suc, ◌<◌, ◌≤◌, Bool, true, false, List, [], ◌∷◌, length, map, Option, Some, None, Result, Ok, Err, refl, ap, sym, subst, ◌∙◌, arith, if◌then◌else◌, nat_lt}
-use Rattle.std.specs.Prelude.{◌&&◌, ◌==◌, slice_get, All, Contains, MatchResult, IfOk, IfErr, IsErrAnd, IsSome, IfSome, IsSomeAnd}
+use Rattle.std.proofs.Common.{◌≡◌, ◌≢◌, ◌⊎◌, inl, inr, ℕ, ◌<◌, ◌≤◌, List, [], ◌∷◌, length, map, Option, Some, None, Result, Ok, Err, refl, ap, sym, subst, ◌∙◌, arith}
+use Rattle.std.specs.Prelude.{All, MatchResult, IfOk, IfErr, IsErrAnd, IsSome, IfSome, IsSomeAnd}
 use Rattle.std.specs.List.{AllByRecursion as Each}
-use Rattle.std.proofs.lemmas.Bool.{cases_order, or_parts, or_cases, and_parts, ltb-true, ltb-false, eqb-true, eqb-false}
+use Rattle.std.proofs.lemmas.Bool.{cases_order}
 use Rattle.std.proofs.lemmas.List.Elements.{All-nil, All-cons, All-head, All-tail, recursion_from_All}
 use Rattle.sq_parse.specs.declared.tree.Source.{Source}
 use Rattle.sq_parse.specs.declared.tree.Statement.{Statement}
-use Rattle.sq_expr.specs.Reach.{IsLed, IsClosed, IsReachable}
+use Rattle.sq_expr.specs.Reach.{IsReachable}
 use Rattle.sq_expr.specs.declared.block.Block.{Block}
 use Rattle.sq_expr.specs.declared.shape.Shape.{Shape}
-use Rattle.sq_bind.specs.Fault.{IsFirst, IsNotLater, is_before, place_of, fault_number, sooner, first_of}
+use Rattle.sq_bind.specs.Fault.{first_of}
 use Rattle.sq_expr.specs.Fits.{IsFit}
 use Rattle.sq_expr.specs.Shapes.{FitsShape}
 use Rattle.sq_expr.specs.declared.block.AliasUse.{AliasUse}
-use Rattle.sq_expr.specs.declared.block.Conjunct.{Conjunct}
 use Rattle.sq_bind.specs.Visible.{Alias}
 use Rattle.sq_bind.specs.Statement.{Scope, from_faults, rest_faults, matches_of, shape_in, shaped_of, plain_block, block_of, aliases_in, placed_in, placed_conjunct, first_output, use_of}
 use Rattle.sq_bind.specs.Found.{IsFound, used_at, matches_with}

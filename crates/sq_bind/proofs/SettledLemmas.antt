@@ -1,6 +1,6 @@
 -- The shape of a statement without a fault is settled.
-use Rattle.std.proofs.Common.{◌≡◌, ◌⊎◌, inl, inr, ℕ, ◌<◌, Bool, true, false, List, [], ◌∷◌, ◌++◌, length, map, Option, Some, None, Result, Ok, Err, refl, ap, sym, subst, ◌∙◌, if◌then◌else◌}
-use Rattle.std.specs.Prelude.{◌&&◌, ◌||◌, ◌==◌, not, All, IsSome, is_some, IfOk}
+use Rattle.std.proofs.Common.{◌≡◌, ◌⊎◌, inl, inr, ℕ, Bool, true, false, List, [], ◌∷◌, ◌++◌, map, Option, Some, None, Result, Ok, Err, refl, ap, sym, subst, ◌∙◌, if◌then◌else◌}
+use Rattle.std.specs.Prelude.{◌&&◌, ◌||◌, ◌==◌, not, IsSome, is_some, IfOk}
 use Rattle.std.specs.List.{flat_map, list_any, Any, AllByRecursion as Each}
 use Rattle.std.proofs.lemmas.Bool.{and_parts, eqb-true}
 use Rattle.std.proofs.lemmas.List.Elements.{All-from_recursion}
@@ -18,7 +18,7 @@ use Rattle.sq_expr.specs.declared.shape.SortOn.{SortOn}
 use Rattle.sq_expr.specs.declared.shape.SortOn.TheVariants as sort
 use Rattle.sq_bind.specs.Visible.{Alias}
 use Rattle.sq_bind.specs.Condition.{conjunct_faults}
-use Rattle.sq_bind.specs.Statement.{Scope, Sorting, is_one_column, is_grouping, is_settled, shows, is_unselected, is_ungrouped, sorted_faults, order_faults, order_on, order_key, key_of, key_faults, sorting_of, selected_faults, parts_of, part_faults, placed_in, group_faults, grouped_faults, cells_of, grouping_of, shape_in, shaped_of, rest_faults, faults_among, aliases_in}
+use Rattle.sq_bind.specs.Statement.{Scope, Sorting, is_one_column, is_grouping, is_settled, shows, is_unselected, is_ungrouped, sorted_faults, order_faults, order_on, order_key, key_of, key_faults, sorting_of, selected_faults, parts_of, part_faults, placed_in, group_faults, grouped_faults, shape_in, rest_faults, faults_among, aliases_in}
 use Rattle.sq_bind.specs.Settled.{IsKey, IsShownBy, IsCellOr, IsSettledShape}
 use Rattle.sq_bind.specs.Told.{IsAnswer}
 use Rattle.sq_bind.specs.declared.shaped.Shaped.{Shaped}

@@ -1,9 +1,8 @@
 -- The shape of a statement without a fault fits.
-use Rattle.std.proofs.Common.{◌≡◌, ℕ, ◌<◌, Bool, true, false, List, [], ◌∷◌, ◌++◌, length, map, Option, Some, None, refl, ap, sym, subst, ◌∙◌, if◌then◌else◌}
-use Rattle.std.specs.Prelude.{◌||◌, All, IsSome, is_some, ⊤}
+use Rattle.std.proofs.Common.{◌≡◌, ℕ, Bool, true, false, List, [], ◌∷◌, length, map, Option, Some, None, refl, ap, sym, subst, ◌∙◌, if◌then◌else◌}
+use Rattle.std.specs.Prelude.{◌||◌, IsSome, is_some}
 use Rattle.std.specs.List.{flat_map, list_all, AllByRecursion as Each}
 use Rattle.std.proofs.lemmas.Bool.{and_parts}
-use Rattle.std.proofs.lemmas.List.{length-map}
 use Rattle.std.proofs.lemmas.List.Elements.{All-from_recursion}
 use Rattle.sq_parse.specs.Shaped.{is_grouped}
 use Rattle.sq_parse.specs.declared.tree.ColRef.{ColRef}
@@ -11,10 +10,9 @@ use Rattle.sq_parse.specs.declared.tree.Items.{Items}
 use Rattle.sq_parse.specs.declared.tree.Items.TheVariants as items
 use Rattle.sq_parse.specs.declared.tree.Item.{Item}
 use Rattle.sq_parse.specs.declared.tree.Statement.{Statement}
-use Rattle.sq_expr.specs.Fits.{Numbers, class_of, kind_in, tables_used}
+use Rattle.sq_expr.specs.Fits.{kind_in, tables_used}
 use Rattle.sq_expr.specs.Shapes.{IsColumn, FitsAgg, FitsSort, FitsShape}
 use Rattle.sq_expr.specs.declared.cond.ColumnOf.{ColumnOf}
-use Rattle.sq_expr.specs.declared.block.Block.{Block}
 use Rattle.sq_expr.specs.declared.shape.AggKind.{AggKind}
 use Rattle.sq_expr.specs.declared.shape.AggKind.TheVariants as agg
 use Rattle.sq_expr.specs.declared.shape.Cell.{Cell}

@@ -1,6 +1,6 @@
 -- What grouping and DISTINCT ask of a shape, said of the shape alone: in SQL-92's grouped tables each cell has one
 -- value in a group, and so has what lines are sorted by; with DISTINCT lines are sorted by what they show.
-use Rattle.std.specs.Prelude.{◌≡◌, ◌⊎◌, true, List, Option, None, All, IsSome}
+use Rattle.std.specs.Prelude.{◌≡◌, ◌⊎◌, true, None, All, IsSome}
 use Rattle.std.specs.List.{Any}
 use Rattle.sq_expr.specs.declared.cond.ColumnOf.{ColumnOf}
 use Rattle.sq_expr.specs.declared.shape.Cell.{Cell}
