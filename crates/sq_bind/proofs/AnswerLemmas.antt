@@ -1,19 +1,18 @@
 -- What the answers of the rounds say together, and that a statement has one answer.
-use Rattle.std.proofs.Common.{◌≡◌, ◌≢◌, ◌⊎◌, inl, inr, ℕ, zero, suc, ◌<◌, ◌≤◌, Bool, true, false, List, [], ◌∷◌, length, map, Option, Some, None, Result, Ok, Err, refl, ap, sym, subst, ◌∙◌, arith, if◌then◌else◌, nat_lt}
-use Rattle.std.specs.Prelude.{◌&&◌, ◌==◌, slice_get, All, Contains, MatchResult, IfOk, IfErr, IsErrAnd, IsSome, IfSome, IsSomeAnd}
+use Rattle.std.proofs.Common.{◌≡◌, ◌≢◌, ◌⊎◌, inl, inr, ℕ, ◌<◌, ◌≤◌, List, [], ◌∷◌, length, map, Option, Some, None, Result, Ok, Err, refl, ap, sym, subst, ◌∙◌, arith}
+use Rattle.std.specs.Prelude.{All, MatchResult, IfOk, IfErr, IsErrAnd, IsSome, IfSome, IsSomeAnd}
 use Rattle.std.specs.List.{AllByRecursion as Each}
-use Rattle.std.proofs.lemmas.Bool.{cases_order, or_parts, or_cases, and_parts, ltb-true, ltb-false, eqb-true, eqb-false}
+use Rattle.std.proofs.lemmas.Bool.{cases_order}
 use Rattle.std.proofs.lemmas.List.Elements.{All-nil, All-cons, All-head, All-tail, recursion_from_All}
 use Rattle.sq_parse.specs.declared.tree.Source.{Source}
 use Rattle.sq_parse.specs.declared.tree.Statement.{Statement}
-use Rattle.sq_expr.specs.Reach.{IsLed, IsClosed, IsReachable}
+use Rattle.sq_expr.specs.Reach.{IsReachable}
 use Rattle.sq_expr.specs.declared.block.Block.{Block}
 use Rattle.sq_expr.specs.declared.shape.Shape.{Shape}
-use Rattle.sq_bind.specs.Fault.{IsFirst, IsNotLater, is_before, place_of, fault_number, sooner, first_of}
+use Rattle.sq_bind.specs.Fault.{first_of}
 use Rattle.sq_expr.specs.Fits.{IsFit}
 use Rattle.sq_expr.specs.Shapes.{FitsShape}
 use Rattle.sq_expr.specs.declared.block.AliasUse.{AliasUse}
-use Rattle.sq_expr.specs.declared.block.Conjunct.{Conjunct}
 use Rattle.sq_bind.specs.Visible.{Alias}
 use Rattle.sq_bind.specs.Statement.{Scope, from_faults, rest_faults, matches_of, shape_in, shaped_of, plain_block, block_of, aliases_in, placed_in, placed_conjunct, first_output, use_of}
 use Rattle.sq_bind.specs.Found.{IsFound, used_at, matches_with}
@@ -53,7 +52,7 @@ module _ (scope : Scope) (s : Statement) where
   one_fault f g (inr (x, inr a)) (inr (y, inr b)) =
       let u = a.1 in
       let v = b.1 in
-      u.1 ∙ ap fault.Unreachable (unreached_twice (block_of scope s) u.0 v.0 u.2 v.2) ∙ sym v.1
+      u.1 ∙ ap fault.Unreachable (unreached_twice (matches_of scope s) u.0 v.0 u.2 v.2) ∙ sym v.1
 
   reached_each : (block : Block) → IsReachable block → (a : ℕ) → a < length block.aliases → IsReachedAlias block a
   reached_each block h a low = record {
@@ -64,17 +63,6 @@ module _ (scope : Scope) (s : Statement) where
     within = λ set' closed. h.each set' closed a low;
   }
 
-  -- and none beside a block
-  pub no_fault : (block : Block) (f : BindFault) → IsBound scope s block → IsBindFault scope s f → ⊥
-  no_fault block f bound (inl a) = no_first (from_faults scope s.sources) f bound.from a
-  no_fault block f bound (inr (x, inl a)) = no_first (rest_faults scope s) f bound.rest a
-  no_fault block f bound (inr (x, inr a)) =
-      let u = a.1.2 in
-      u.unreached (reached_each (block_of scope s) (subst IsReachable bound.is bound.reachable) a.1.0 u.there)
-
-  pub one_block : (x y : Block) → IsBound scope s x → IsBound scope s y → x ≡ y
-  one_block x y a b = a.is ∙ sym b.is
-
   -- the matches have the aliases and the conjuncts of the plain block
   plain_matches : IsReachable (matches_of scope s) → IsReachable (block_of scope s)
   unfolding plain_block
@@ -83,6 +71,17 @@ module _ (scope : Scope) (s : Statement) where
   matches_plain : IsReachable (block_of scope s) → IsReachable (matches_of scope s)
   unfolding plain_block
   matches_plain h = reachable_by (block_of scope s) (matches_of scope s) refl refl h
+
+  -- and none beside a block
+  pub no_fault : (block : Block) (f : BindFault) → IsBound scope s block → IsBindFault scope s f → ⊥
+  no_fault block f bound (inl a) = no_first (from_faults scope s.sources) f bound.from a
+  no_fault block f bound (inr (x, inl a)) = no_first (rest_faults scope s) f bound.rest a
+  no_fault block f bound (inr (x, inr a)) =
+      let u = a.1.2 in
+      u.unreached (reached_each (matches_of scope s) (matches_plain (subst IsReachable bound.is bound.reachable)) a.1.0 u.there)
+
+  pub one_block : (x y : Block) → IsBound scope s x → IsBound scope s y → x ≡ y
+  one_block x y a b = a.is ∙ sym b.is
 
   -- nor beside a block and a shape
   pub no_fault_shape : (shaped : Shaped) (f : BindFault) → IsBoundShape scope s shaped → IsBindFault scope s f → ⊥
@@ -285,9 +284,9 @@ module _ (scope : Scope) (s : Statement) where
       }
   reach_answer from rest some made is (Err f) same reached (inl e) = inl e
   reach_answer from rest some made is (Err f) same reached (inr u) =
-      let any : 0 < length (block_of scope s).aliases = (let l = length-block in omega (arith, some, l)) in
-      let at = unreached_is (Some u.0) (ap (λ (m : Shaped). first_unreached m.block) (sym is) ∙ u.1.1) in
-      inr (inr (from, inr (none_first (rest_faults scope s) rest, (u.0, u.1.0, unreached (block_of scope s) u.0 any at))))
+      let any : 0 < length (matches_of scope s).aliases = (let l = length-matches in omega (arith, some, l)) in
+      let at : first_unreached (matches_of scope s) ≡ Some u.0 = ap (λ (m : Shaped). first_unreached m.block) (sym is) ∙ u.1.1 in
+      inr (inr (from, inr (none_first (rest_faults scope s) rest, (u.0, u.1.0, unreached (matches_of scope s) u.0 any at))))
 
   -- the block fits
   each_within : (P : ℕ → Type 0) (sources : List Source) → All (λ (one : Option ℕ). IfSome one P) (map (λ (x : Source). scope.table x.table.text) sources)
@@ -339,19 +338,19 @@ module _ (scope : Scope) (s : Statement) where
   pub some_answer : 0 < length s.sources → ((block : Block) × IsBound scope s block) ⊎ ((f : BindFault) × IsBindFault scope s f)
   some_answer some = by (first_of (from_faults scope s.sources)) refl
     where
-      any : 0 < length (block_of scope s).aliases
-      any = let l = length-block in omega (arith, some, l)
+      any : 0 < length (matches_of scope s).aliases
+      any = let l = length-matches in omega (arith, some, l)
 
-      reach : from_faults scope s.sources ≡ [] → rest_faults scope s ≡ [] → (o : Option ℕ) → first_unreached (block_of scope s) ≡ o
+      reach : from_faults scope s.sources ≡ [] → rest_faults scope s ≡ [] → (o : Option ℕ) → first_unreached (matches_of scope s) ≡ o
           → ((block : Block) × IsBound scope s block) ⊎ ((f : BindFault) × IsBindFault scope s f)
       reach from rest None e =
-          inl (block_of scope s, record { from = from; rest = rest; is = refl; reachable = all_reached (block_of scope s) any e })
+          inl (block_of scope s, record { from = from; rest = rest; is = refl; reachable = plain_matches (all_reached (matches_of scope s) any e) })
       reach from rest (Some alias) e =
-          inr (fault.Unreachable alias, inr (from, inr (rest, (alias, refl, unreached (block_of scope s) alias any e))))
+          inr (fault.Unreachable alias, inr (from, inr (rest, (alias, refl, unreached (matches_of scope s) alias any e))))
 
       rest' : from_faults scope s.sources ≡ [] → (o : Option BindFault) → first_of (rest_faults scope s) ≡ o
           → ((block : Block) × IsBound scope s block) ⊎ ((f : BindFault) × IsBindFault scope s f)
-      rest' from None e = reach from (none_first (rest_faults scope s) e) (first_unreached (block_of scope s)) refl
+      rest' from None e = reach from (none_first (rest_faults scope s) e) (first_unreached (matches_of scope s)) refl
       rest' from (Some f) e = inr (f, inr (from, inl (first_is (rest_faults scope s) f e)))
 
       by : (o : Option BindFault) → first_of (from_faults scope s.sources) ≡ o

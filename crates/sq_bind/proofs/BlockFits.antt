@@ -1,15 +1,9 @@
 -- The block of a statement without a fault fits.
-use Rattle.std.proofs.Common.{◌≡◌, cond, ℕ, zero, suc, ◌+◌, ◌<◌, ◌≤◌, Bool, true, false, List, [], ◌∷◌, ◌++◌, length, map, take, filter, Option, Some, None, Result, Ok, Err, refl, ap, sym, subst, ◌∙◌, arith, if◌then◌else◌}
-use Rattle.std.specs.Prelude.{All, not, slice_get, slice_index_or, unwrap_or, IfSome, IsSome, option_and_then, ⊤}
-use Rattle.std.specs.List.{flat_map, list_all, AllByRecursion as Each}
-use Rattle.std.specs.Option.{option_map, option_map_or}
+use Rattle.std.proofs.Common.{◌≡◌, ℕ, ◌<◌, ◌≤◌, List, [], ◌∷◌, ◌++◌, length, map, Option, Some, None, Result, Ok, Err, refl, ap, sym, subst, arith}
+use Rattle.std.specs.Prelude.{All, slice_get, slice_index_or, unwrap_or, IfSome, IsSome, ⊤}
+use Rattle.std.specs.List.{flat_map, AllByRecursion as Each}
 use Rattle.std.proofs.lemmas.List.{length-map}
-use Rattle.std.proofs.lemmas.List.Elements.{All-from_recursion, All-head, All-tail}
-use Rattle.sq_value.specs.Name.{is_same_name}
-use Rattle.sq_value.specs.Relation.{Relation}
-use Rattle.sq_value.specs.declared.value.ColType.{ColType}
-use Rattle.sq_value.specs.declared.value.ColType.TheVariants as col
-use Rattle.sq_value.specs.declared.value.SortWay.{SortWay}
+use Rattle.std.proofs.lemmas.List.Elements.{All-from_recursion}
 use Rattle.sq_value.specs.declared.table.Column.{Column}
 use Rattle.sq_parse.specs.declared.tree.Name.{Name}
 use Rattle.sq_parse.specs.declared.tree.ColRef.{ColRef}
@@ -18,12 +12,10 @@ use Rattle.sq_parse.specs.declared.tree.Items.TheVariants as items
 use Rattle.sq_parse.specs.declared.tree.Item.{Item}
 use Rattle.sq_parse.specs.declared.tree.Item.TheVariants as item
 use Rattle.sq_parse.specs.declared.tree.Source.{Source}
-use Rattle.sq_parse.specs.declared.tree.Tree.{Tree}
 use Rattle.sq_parse.specs.declared.tree.OrderItem.{OrderItem}
 use Rattle.sq_parse.specs.declared.tree.Statement.{Statement}
-use Rattle.sq_expr.specs.Fits.{Numbers, class_of, column_kind, kind_in, FitsHere, FitsAlias, FitsConjunct, tables_used, aliases_of, IsFit}
+use Rattle.sq_expr.specs.Fits.{kind_in, FitsAlias, FitsConjunct, tables_used, IsFit}
 use Rattle.sq_expr.specs.declared.cond.ColumnOf.{ColumnOf}
-use Rattle.sq_expr.specs.declared.cond.Cond.{every-Cond}
 use Rattle.sq_expr.specs.declared.block.AliasUse.{AliasUse}
 use Rattle.sq_expr.specs.declared.block.OutCol.{OutCol}
 use Rattle.sq_expr.specs.declared.block.OrderKey.{OrderKey}
@@ -31,26 +23,19 @@ use Rattle.sq_expr.specs.declared.block.Block.{Block}
 use Rattle.sq_expr.specs.declared.shape.AggKind.{AggKind}
 use Rattle.sq_expr.specs.declared.shape.AggKind.TheVariants as agg
 use Rattle.sq_expr.specs.declared.shape.Cell.{Cell}
-use Rattle.sq_expr.specs.declared.shape.SortOn.{SortOn}
-use Rattle.sq_expr.specs.declared.shape.SortOn.TheVariants as sort
 use Rattle.sq_expr.specs.declared.shape.ShapeOrder.{ShapeOrder}
-use Rattle.sq_expr.proofs.OccurLemmas.{every-occurs}
-use Rattle.sq_expr.proofs.WeakerLemmas.{every-also}
 use Rattle.sq_bind.specs.Visible.{Alias, called, meant}
-use Rattle.sq_bind.specs.Operand.{is_text, column_faults, number_faults}
+use Rattle.sq_bind.specs.Operand.{column_faults}
 use Rattle.sq_bind.specs.Condition.{extra_faults, conjunct_faults}
-use Rattle.sq_bind.specs.Statement.{Scope, from_faults, source_faults, sources_faults, table_faults, alias_faults, thirteenth_faults, table_number, columns_at, aliases_from, aliases_in, plain_cell, cells_from, columns_of, named_column, called_columns, called_faults, agg_cell, first_column, grouping_column, agg_of, agg_cells, summed_faults, agg_faults, item_cells, item_faults, cells_of, selected_faults, group_faults, grouped_faults, is_same_cell, column_meant, sorted_on, has_name, candidates, first_named, order_on, Sorting, sorting_of, order_faults, order_key, Part, part_seeing, joins_from, parts_of, part_conjuncts, part_faults, placed_in, key_faults, faults_among, rest_faults, placed_conjunct, scanned, used, use_of, key_of, shape_in, first_output, matches_of, output_column, column_at, sort_column, key_by, plain_key, plain_block, block_of}
+use Rattle.sq_bind.specs.Statement.{Scope, from_faults, source_faults, sources_faults, table_faults, alias_faults, thirteenth_faults, table_number, columns_at, aliases_from, aliases_in, cells_from, columns_of, named_column, called_columns, called_faults, first_column, agg_of, agg_cells, summed_faults, agg_faults, item_cells, item_faults, cells_of, selected_faults, group_faults, grouped_faults, Sorting, sorting_of, parts_of, part_faults, placed_in, key_faults, faults_among, rest_faults, placed_conjunct, scanned, used, use_of, key_of, shape_in, first_output, matches_of, output_column, plain_key, plain_block, block_of}
 use Rattle.sq_bind.specs.Given.{AreAccesses}
-use Rattle.sq_bind.specs.Sound.{IsSound, IsSoundTree, IsSoundList}
+use Rattle.sq_bind.specs.Sound.{IsSound, IsSoundList}
 use Rattle.sq_bind.specs.declared.conjunct.Placed.{Placed}
 use Rattle.sq_bind.specs.declared.visible.Resolved.{Resolved}
 use Rattle.sq_bind.specs.declared.fault.BindFault.{BindFault}
-use Rattle.sq_bind.specs.declared.fault.BindFault.TheVariants.{AmbiguousColumn, TypeMismatch}
 use Rattle.sq_parse.specs.Tree.{column_place}
-use Rattle.sq_bind.proofs.HeldLemmas.{at_column, ColumnsHave, AliasHas, meant_has, called_held, each_append, each_flat}
-use Rattle.sq_bind.proofs.OperandFits.{both_empty, each_empty}
-use Rattle.sq_bind.proofs.TreeFits.{tree_good}
-use Rattle.sq_bind.proofs.SpanLemmas.{span_holds}
+use Rattle.sq_bind.proofs.HeldLemmas.{ColumnsHave, AliasHas, called_held}
+use Rattle.sq_bind.proofs.OperandFits.{both_empty}
 use Rattle.sq_bind.proofs.RestFits.{each_map, each_also, each_both, map_map, none_past, get_at, some_is, length-aliases, HasKindIn, aliases_have, CellThere, cells_there, OnThere, key_there, OutThere, KeyThere, output_there, plain_there, Fit, placed_fit, conjunct_fits}
 
 -- ---- the first round

@@ -1,34 +1,15 @@
 -- The first of some faults is one, and reach goes by aliases and conjuncts.
-use Rattle.std.proofs.Common.{◌≡◌, ◌≢◌, ◌⊎◌, inl, inr, ℕ, zero, suc, ◌<◌, ◌≤◌, Bool, true, false, List, [], ◌∷◌, length, map, Option, Some, None, Result, Ok, Err, refl, ap, sym, subst, ◌∙◌, arith, if◌then◌else◌, nat_lt}
-use Rattle.std.specs.Prelude.{◌&&◌, ◌==◌, slice_get, All, Contains, MatchResult, IfOk, IfErr, IsErrAnd, IsSome, IfSome, IsSomeAnd}
-use Rattle.std.specs.List.{AllByRecursion as Each}
-use Rattle.std.proofs.lemmas.Bool.{cases_order, or_parts, or_cases, and_parts, ltb-true, ltb-false, eqb-true, eqb-false}
-use Rattle.std.proofs.lemmas.List.Elements.{All-nil, All-cons, All-head, All-tail, recursion_from_All}
-use Rattle.sq_parse.specs.declared.tree.Source.{Source}
-use Rattle.sq_parse.specs.declared.tree.Statement.{Statement}
+use Rattle.std.proofs.Common.{◌≡◌, ◌⊎◌, inl, inr, ℕ, zero, suc, ◌<◌, ◌≤◌, Bool, true, false, List, [], ◌∷◌, length, Option, Some, None, refl, ap, sym, subst, ◌∙◌, arith, if◌then◌else◌, nat_lt}
+use Rattle.std.specs.Prelude.{◌&&◌, ◌==◌, slice_get, Contains}
+use Rattle.std.proofs.lemmas.Bool.{or_parts, or_cases, and_parts, ltb-true, ltb-false, eqb-true, eqb-false}
 use Rattle.sq_expr.specs.Reach.{IsLed, IsClosed, IsReachable}
 use Rattle.sq_expr.specs.declared.block.Block.{Block}
-use Rattle.sq_expr.specs.declared.shape.Shape.{Shape}
 use Rattle.sq_bind.specs.Fault.{IsFirst, IsNotLater, is_before, place_of, fault_number, sooner, first_of}
-use Rattle.sq_expr.specs.Fits.{IsFit}
-use Rattle.sq_expr.specs.Shapes.{FitsShape}
 use Rattle.sq_expr.specs.declared.block.AliasUse.{AliasUse}
 use Rattle.sq_expr.specs.declared.block.Conjunct.{Conjunct}
-use Rattle.sq_bind.specs.Visible.{Alias}
-use Rattle.sq_bind.specs.Statement.{Scope, from_faults, rest_faults, matches_of, shape_in, shaped_of, plain_block, block_of, aliases_in, placed_in, placed_conjunct, first_output, use_of}
-use Rattle.sq_bind.specs.Found.{IsFound, used_at, matches_with}
-use Rattle.sq_bind.specs.Given.{AreAccesses}
-use Rattle.sq_bind.specs.Reached.{first_unreached}
-use Rattle.sq_bind.specs.Sound.{IsSound}
-use Rattle.sq_bind.specs.Answer.{IsReachedAlias, IsFirstUnreached, IsBindFault, IsBound, IsBoundShape}
-use Rattle.sq_bind.specs.Told.{IsMade, IsAnswer, IsPlainOf}
-use Rattle.sq_bind.specs.declared.shaped.Shaped.{Shaped}
 use Rattle.sq_bind.specs.declared.fault.BindFault.{BindFault}
 use Rattle.sq_bind.specs.declared.fault.BindFault.TheVariants as fault
-use Rattle.sq_bind.proofs.BlockFits.{first_round, held, faultless, both_fit}
-use Rattle.sq_bind.proofs.ShapeFits.{shape_fits}
-use Rattle.sq_bind.proofs.ReachLemmas.{unreached, all_reached}
-use Rattle.std.proofs.lemmas.List.{length-map}
+use Rattle.sq_bind.proofs.BlockFits.{held}
 
 -- ---- the first of some faults
 

@@ -6,6 +6,7 @@ mod ConditionLemmas
 mod SplitLemmas
 mod SelectLemmas
 mod OrderLemmas
+mod ColumnLemmas
 mod SourceLemmas
 mod MarkLemmas
 mod ReachLemmas
@@ -16,6 +17,7 @@ mod SpanLemmas
 mod RestFits
 mod BlockFits
 mod ShapeFits
+mod SettledLemmas
 pub mod ParsedLemmas
 mod PartLemmas
 mod OccursLemmas

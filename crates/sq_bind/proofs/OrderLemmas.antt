@@ -2,11 +2,12 @@
 use Rattle.std.proofs.Common.{◌≡◌, ℕ, suc, ◌+◌, length, arith, Bool, true, false, List, [], ◌∷◌, ◌++◌, Option, Some, None, Result, refl, ap, sym, ◌∙◌, cond, if◌then◌else◌}
 use Rattle.std.specs.Prelude.{filter, not, ◌&&◌, String, string_bytes}
 use Rattle.std.specs.List.{list_all}
-use Rattle.std.specs.Map.{lookup}
+use Rattle.std.specs.Map.{lookup, update}
+use Rattle.std.specs.BTreeMap.{BTreeMap, get_by_text}
+use Rattle.std.specs.Cmp.Lexicographic.{slice_cmp}
+use Rattle.std.specs.Ordering.{is_eq, nat_cmp}
 use Rattle.std.specs.Str.{bytes_eq}
-use Rattle.std.proofs.lemmas.Bool.Decides.{same_from_decides}
 use Rattle.std.proofs.lemmas.Slice.Eq.{bytes_eq-Decides}
-use Rattle.indexmap.specs.IndexMap.{insert_entry}
 use Rattle.sq_value.specs.Name.{lower, is_same_name}
 use Rattle.sq_parse.specs.Tree.{column_place}
 use Rattle.sq_parse.specs.declared.tree.ColRef.{ColRef}
@@ -115,68 +116,32 @@ one_more name first known (x ∷ cells) c =
 
 -- ---- the entries, with one more cell
 
-bytes_eq-sym : (x y : List ℕ) → bytes_eq x y ≡ bytes_eq y x
-bytes_eq-sym x y =
-    same_from_decides (bytes_eq x y) (bytes_eq y x) (bytes_eq-Decides x y)
-    (λ e. sym ((bytes_eq-Decides y x).0 e), λ e. (bytes_eq-Decides y x).1 (sym e))
-
+-- the test by which a name in lower case is looked for
 abbrev is_key : {A : Type 0} → List ℕ → String A → Bool
-is_key low key = bytes_eq low (string_bytes key)
-
-abbrev pub string_eq : {A : Type 0} → String A → String A → Bool
-string_eq x y = bytes_eq (string_bytes x) (string_bytes y)
-
-module _ {A X : Type 0} where
-  -- under the name of the key stands the new value
-  put_there : (es : List (String A × X)) (key : String A) (v : X)
-      → lookup (is_key (string_bytes key)) (insert_entry string_eq es key v) ≡ Some v
-  put_there [] key v = ap (λ (b : Bool). cond b (Some v) None) ((bytes_eq-Decides (string_bytes key) (string_bytes key)).1 refl)
-  put_there (e ∷ es) key v = by (string_eq key e.0) refl (put_there es key v)
-    where
-      by : (b : Bool) → string_eq key e.0 ≡ b
-          → lookup (is_key (string_bytes key)) (insert_entry string_eq es key v) ≡ Some v
-          → lookup (is_key (string_bytes key)) (if b then (e.0, v) ∷ es else e ∷ insert_entry string_eq es key v) ≡ Some v
-      by true is rest = ap (λ (b : Bool). cond b (Some v) (lookup (is_key (string_bytes key)) es)) is
-      by false is rest =
-          ap (λ (b : Bool). cond b (Some e.1) (lookup (is_key (string_bytes key)) (insert_entry string_eq es key v))) is
-          ∙ rest
-
-  -- and under another name what stood there
-  put_apart : (low : List ℕ) (es : List (String A × X)) (key : String A) (v : X) → is_key low key ≡ false
-      → lookup (is_key low) (insert_entry string_eq es key v) ≡ lookup (is_key low) es
-  put_apart low [] key v apart = ap (λ (b : Bool). cond b (Some v) None) apart
-  put_apart low (e ∷ es) key v apart = by (string_eq key e.0) refl (put_apart low es key v apart)
-    where
-      by : (b : Bool) → string_eq key e.0 ≡ b
-          → lookup (is_key low) (insert_entry string_eq es key v) ≡ lookup (is_key low) es
-          → lookup (is_key low) (if b then (e.0, v) ∷ es else e ∷ insert_entry string_eq es key v)
-          ≡ cond (is_key low e.0) (Some e.1) (lookup (is_key low) es)
-      by true is rest =
-          let same : string_bytes key ≡ string_bytes e.0 = (bytes_eq-Decides (string_bytes key) (string_bytes e.0)).0 is in
-          let not_here : is_key low e.0 ≡ false = ap (bytes_eq low) (sym same) ∙ apart in
-          ap (λ (b : Bool). cond b (Some v) (lookup (is_key low) es)) not_here
-          ∙ sym (ap (λ (b : Bool). cond b (Some e.1) (lookup (is_key low) es)) not_here)
-      by false is rest = ap (λ (found : Option X). cond (is_key low e.0) (Some e.1) found) rest
+is_key low key = is_eq (slice_cmp nat_cmp low (string_bytes key))
 
 module _ {A : Type 0} where
   -- no entries, and no cells
   pub no_cells : (es : List (String A × Meant)) → es ≡ [] → HoldsCells es []
   unfolding HoldsCells meant_from
-  no_cells es e name = ap (λ (xs : List (String A × Meant)). lookup (λ key. bytes_eq (lower name) (string_bytes key)) xs) e
+  no_cells es e name = ap (λ (xs : List (String A × Meant)). lookup (is_key (lower name)) xs) e
 
   -- what is kept under a name that is given in lower case
   pub held_at : (es : List (String A × Meant)) (cells : List Cell) (name low : List ℕ) → HoldsCells es cells → low ≡ lower name
-      → lookup (λ key. bytes_eq low (string_bytes key)) es ≡ meant_among name cells
+      → lookup (λ key. is_eq (slice_cmp nat_cmp low (string_bytes key))) es ≡ meant_among name cells
   unfolding HoldsCells
-  held_at es cells name low held is =
-      ap (λ (l : List ℕ). lookup (λ key. bytes_eq l (string_bytes key)) es) is ∙ held name
+  held_at es cells name low held is = ap (λ (l : List ℕ). lookup (is_key l) es) is ∙ held name
 
   -- a cell more, put under its name
-  pub more_cells : (es : List (String A × Meant)) (key : String A) (front : List Cell) (c : Cell) (place : ℕ)
-      → length front ≡ place → string_bytes key ≡ lower c.name → HoldsCells es front
-      → HoldsCells (insert_entry string_eq es key (meant_with place (meant_among c.name front) c)) (front ++ (c ∷ []))
+  pub more_cells : (old new : BTreeMap (String A) Meant) (low : List ℕ) (front : List Cell) (c : Cell) (place : ℕ)
+      → length front ≡ place → low ≡ lower c.name
+      → ((q : List ℕ) → get_by_text new q
+      ≡ update bytes_eq (get_by_text old) low (Some (meant_with place (meant_among c.name front) c)) q)
+      → HoldsCells old.entries front → HoldsCells new.entries (front ++ (c ∷ []))
   unfolding HoldsCells
-  more_cells es key front c place long is held name = by (is_same_name c.name name) refl
+  more_cells old new low front c place long is put held name =
+      put (lower name) ∙ ap (λ (l : List ℕ). cond (bytes_eq l (lower name)) (Some v) (get_by_text old (lower name))) is
+      ∙ by (is_same_name c.name name) refl ∙ sym after
     where
       at : 0 + length front ≡ place
       at = omega (arith, long)
@@ -188,19 +153,11 @@ module _ {A : Type 0} where
       v = meant_with place (meant_among c.name front) c
 
       by : (b : Bool) → is_same_name c.name name ≡ b
-          → lookup (is_key (lower name)) (insert_entry string_eq es key v) ≡ meant_among name (front ++ (c ∷ []))
+          → cond b (Some v) (get_by_text old (lower name))
+          ≡ (if b then Some (meant_with place (meant_among name front) c) else meant_among name front)
       by true e =
           let same : lower c.name ≡ lower name = (bytes_eq-Decides (lower c.name) (lower name)).0 e in
           let known : meant_among c.name front ≡ meant_among name front =
-          sym (held c.name) ∙ ap (λ (l : List ℕ). lookup (is_key l) es) same ∙ held name in
-          ap (λ (l : List ℕ). lookup (is_key l) (insert_entry string_eq es key v)) (sym same ∙ sym is)
-          ∙ put_there es key v
-          ∙ ap (λ (k : Option Meant). Some (meant_with place k c)) known
-          ∙ sym (ap (λ (b : Bool). if b then Some (meant_with place (meant_among name front) c) else meant_among name front) e)
-          ∙ sym after
-      by false e =
-          let apart : is_key (lower name) key ≡ false =
-          ap (bytes_eq (lower name)) is ∙ bytes_eq-sym (lower name) (lower c.name) ∙ e in
-          put_apart (lower name) es key v apart ∙ held name
-          ∙ sym (ap (λ (b : Bool). if b then Some (meant_with place (meant_among name front) c) else meant_among name front) e)
-          ∙ sym after
+          sym (held c.name) ∙ ap (λ (l : List ℕ). lookup (is_key l) old.entries) same ∙ held name in
+          ap (λ (k : Option Meant). Some (meant_with place k c)) known
+      by false e = held name

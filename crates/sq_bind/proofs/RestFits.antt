@@ -1,15 +1,12 @@
 -- What a statement without a fault shows, sorts by and asks for is there.
-use Rattle.std.proofs.Common.{◌≡◌, cond, ℕ, zero, suc, ◌+◌, ◌<◌, ◌≤◌, Bool, true, false, List, [], ◌∷◌, ◌++◌, length, map, take, filter, Option, Some, None, Result, Ok, Err, refl, ap, sym, subst, ◌∙◌, arith, if◌then◌else◌}
-use Rattle.std.specs.Prelude.{All, not, slice_get, slice_index_or, unwrap_or, IfSome, IsSome, option_and_then, ⊤}
+use Rattle.std.proofs.Common.{◌≡◌, cond, ℕ, zero, suc, ◌+◌, ◌<◌, ◌≤◌, Bool, true, false, List, [], ◌∷◌, length, map, take, filter, Option, Some, None, Result, Ok, Err, refl, ap, subst, ◌∙◌, arith, if◌then◌else◌}
+use Rattle.std.specs.Prelude.{All, not, slice_get, slice_index_or, IfSome, IsSome, option_and_then, ⊤}
 use Rattle.std.specs.List.{flat_map, list_all, AllByRecursion as Each}
 use Rattle.std.specs.Option.{option_map, option_map_or}
-use Rattle.std.proofs.lemmas.List.{length-map}
-use Rattle.std.proofs.lemmas.List.Elements.{All-from_recursion, All-head, All-tail}
-use Rattle.sq_value.specs.Name.{is_same_name}
+use Rattle.std.proofs.lemmas.List.Elements.{All-head, All-tail}
 use Rattle.sq_value.specs.Relation.{Relation}
 use Rattle.sq_value.specs.declared.value.ColType.{ColType}
 use Rattle.sq_value.specs.declared.value.ColType.TheVariants as col
-use Rattle.sq_value.specs.declared.value.SortWay.{SortWay}
 use Rattle.sq_value.specs.declared.table.Column.{Column}
 use Rattle.sq_parse.specs.declared.tree.Name.{Name}
 use Rattle.sq_parse.specs.declared.tree.ColRef.{ColRef}
@@ -21,13 +18,11 @@ use Rattle.sq_parse.specs.declared.tree.Source.{Source}
 use Rattle.sq_parse.specs.declared.tree.Tree.{Tree}
 use Rattle.sq_parse.specs.declared.tree.OrderItem.{OrderItem}
 use Rattle.sq_parse.specs.declared.tree.Statement.{Statement}
-use Rattle.sq_expr.specs.Fits.{Numbers, class_of, column_kind, kind_in, FitsHere, FitsAlias, FitsConjunct, tables_used, aliases_of, IsFit}
+use Rattle.sq_expr.specs.Fits.{Numbers, class_of, column_kind, kind_in, FitsHere, FitsConjunct, aliases_of}
 use Rattle.sq_expr.specs.declared.cond.ColumnOf.{ColumnOf}
 use Rattle.sq_expr.specs.declared.cond.Cond.{every-Cond}
-use Rattle.sq_expr.specs.declared.block.AliasUse.{AliasUse}
 use Rattle.sq_expr.specs.declared.block.OutCol.{OutCol}
 use Rattle.sq_expr.specs.declared.block.OrderKey.{OrderKey}
-use Rattle.sq_expr.specs.declared.block.Block.{Block}
 use Rattle.sq_expr.specs.declared.shape.AggKind.{AggKind}
 use Rattle.sq_expr.specs.declared.shape.AggKind.TheVariants as agg
 use Rattle.sq_expr.specs.declared.shape.Cell.{Cell}
@@ -37,11 +32,9 @@ use Rattle.sq_expr.specs.declared.shape.ShapeOrder.{ShapeOrder}
 use Rattle.sq_expr.proofs.OccurLemmas.{every-occurs}
 use Rattle.sq_expr.proofs.WeakerLemmas.{every-also}
 use Rattle.sq_bind.specs.Visible.{Alias, called, meant}
-use Rattle.sq_bind.specs.Operand.{is_text, column_faults, number_faults}
-use Rattle.sq_bind.specs.Condition.{extra_faults, conjunct_faults}
-use Rattle.sq_bind.specs.Statement.{Scope, from_faults, source_faults, sources_faults, table_faults, alias_faults, thirteenth_faults, table_number, columns_at, aliases_from, aliases_in, plain_cell, cells_from, columns_of, named_column, called_columns, called_faults, agg_cell, first_column, grouping_column, agg_of, agg_cells, summed_faults, agg_faults, item_cells, item_faults, cells_of, selected_faults, group_faults, grouped_faults, is_same_cell, column_meant, sorted_on, has_name, candidates, first_named, order_on, Sorting, sorting_of, order_faults, order_key, Part, part_seeing, joins_from, parts_of, part_conjuncts, part_faults, placed_in, key_faults, faults_among, rest_faults, placed_conjunct, scanned, used, use_of, key_of, shape_in, first_output, matches_of, output_column, column_at, sort_column, key_by, plain_key, plain_block, block_of}
-use Rattle.sq_bind.specs.Given.{AreAccesses}
-use Rattle.sq_bind.specs.Sound.{IsSound, IsSoundTree, IsSoundList}
+use Rattle.sq_bind.specs.Operand.{is_text}
+use Rattle.sq_bind.specs.Statement.{Scope, table_number, columns_at, aliases_from, cells_from, columns_of, named_column, called_columns, first_column, grouping_column, agg_of, agg_cells, summed_faults, agg_faults, item_cells, item_faults, cells_of, selected_faults, is_same_cell, column_meant, sorted_on, has_name, candidates, first_named, order_on, Sorting, order_faults, order_key, Part, part_seeing, joins_from, parts_of, part_conjuncts, part_faults, placed_in, key_faults, placed_conjunct, key_of, output_column, column_at, sort_column, plain_key}
+use Rattle.sq_bind.specs.Sound.{IsSound, IsSoundTree}
 use Rattle.sq_bind.specs.declared.conjunct.Placed.{Placed}
 use Rattle.sq_bind.specs.declared.visible.Resolved.{Resolved}
 use Rattle.sq_bind.specs.declared.fault.BindFault.{BindFault}

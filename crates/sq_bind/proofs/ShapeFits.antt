@@ -1,9 +1,8 @@
 -- The shape of a statement without a fault fits.
-use Rattle.std.proofs.Common.{◌≡◌, ℕ, ◌<◌, Bool, true, false, List, [], ◌∷◌, ◌++◌, length, map, Option, Some, None, refl, ap, sym, subst, ◌∙◌, if◌then◌else◌}
-use Rattle.std.specs.Prelude.{◌||◌, All, IsSome, is_some, ⊤}
+use Rattle.std.proofs.Common.{◌≡◌, ℕ, Bool, true, false, List, [], ◌∷◌, length, map, Option, Some, None, refl, ap, sym, subst, ◌∙◌, if◌then◌else◌}
+use Rattle.std.specs.Prelude.{◌||◌, IsSome, is_some}
 use Rattle.std.specs.List.{flat_map, list_all, AllByRecursion as Each}
 use Rattle.std.proofs.lemmas.Bool.{and_parts}
-use Rattle.std.proofs.lemmas.List.{length-map}
 use Rattle.std.proofs.lemmas.List.Elements.{All-from_recursion}
 use Rattle.sq_parse.specs.Shaped.{is_grouped}
 use Rattle.sq_parse.specs.declared.tree.ColRef.{ColRef}
@@ -11,10 +10,9 @@ use Rattle.sq_parse.specs.declared.tree.Items.{Items}
 use Rattle.sq_parse.specs.declared.tree.Items.TheVariants as items
 use Rattle.sq_parse.specs.declared.tree.Item.{Item}
 use Rattle.sq_parse.specs.declared.tree.Statement.{Statement}
-use Rattle.sq_expr.specs.Fits.{Numbers, class_of, kind_in, tables_used}
+use Rattle.sq_expr.specs.Fits.{kind_in, tables_used}
 use Rattle.sq_expr.specs.Shapes.{IsColumn, FitsAgg, FitsSort, FitsShape}
 use Rattle.sq_expr.specs.declared.cond.ColumnOf.{ColumnOf}
-use Rattle.sq_expr.specs.declared.block.Block.{Block}
 use Rattle.sq_expr.specs.declared.shape.AggKind.{AggKind}
 use Rattle.sq_expr.specs.declared.shape.AggKind.TheVariants as agg
 use Rattle.sq_expr.specs.declared.shape.Cell.{Cell}
@@ -32,7 +30,7 @@ use Rattle.sq_bind.proofs.RestFits.{each_also}
 
 -- ---- cells of a grouped statement have one value in each group
 
-abbrev IsSettled : List ColumnOf → Cell → Type 0
+abbrev pub IsSettled : List ColumnOf → Cell → Type 0
 IsSettled keys cell = is_settled keys cell ≡ true
 
 all_settled : (keys : List ColumnOf) (cells : List Cell) → list_all (is_settled keys) cells ≡ true → Each (IsSettled keys) cells
@@ -64,7 +62,7 @@ unfolding cells_of
 selected_settled aliases keys star items.Star e = settled keys star (cells_of aliases items.Star) e
 selected_settled aliases keys star (items.List list) e = items_settled aliases keys list e
 
-grouped_settled : (aliases : List Alias) (s : Statement) → grouped_faults aliases s ≡ [] → is_grouped s ≡ true
+pub grouped_settled : (aliases : List Alias) (s : Statement) → grouped_faults aliases s ≡ [] → is_grouped s ≡ true
     → Each (IsSettled (grouping_of aliases s.groups)) (cells_of aliases s.items)
 unfolding grouped_faults
 grouped_settled aliases s e is = by (is_grouped s) is e

@@ -6,7 +6,7 @@ use Rattle.sq_expr.specs.Reach.{IsInReach, IsReachable}
 use Rattle.sq_expr.specs.declared.block.AliasUse.{AliasUse}
 use Rattle.sq_expr.specs.declared.block.Block.{Block}
 use Rattle.sq_bind.specs.Fault.{IsFirst}
-use Rattle.sq_bind.specs.Statement.{Scope, from_faults, rest_faults, block_of, shaped_of}
+use Rattle.sq_bind.specs.Statement.{Scope, from_faults, rest_faults, matches_of, block_of, shaped_of}
 use Rattle.sq_bind.specs.declared.shaped.Shaped.{Shaped}
 use Rattle.sq_bind.specs.declared.fault.BindFault.{BindFault}
 use Rattle.sq_bind.specs.declared.fault.BindFault.TheVariants.{Unreachable}
@@ -29,12 +29,13 @@ pub record IsFirstUnreached (block : Block) (alias : ℕ) : Type 0 where
 abbrev pub IsReachFault : Block → BindFault → Type 0
 IsReachFault block f = (alias : ℕ) × (f ≡ Unreachable alias) × IsFirstUnreached block alias
 
--- the fault of a statement: the first of its first round that has one, which is FROM, the rest, or reach
+-- the fault of a statement: the first of its first round that has one, which is FROM, the rest, or reach: that of the
+-- aliases of FROM, by the conjuncts
 abbrev pub IsBindFault : Scope → Statement → BindFault → Type 0
 IsBindFault scope s f =
     IsFirst (from_faults scope s.sources) f
     ⊎ ((from_faults scope s.sources ≡ [])
-    × (IsFirst (rest_faults scope s) f ⊎ ((rest_faults scope s ≡ []) × IsReachFault (block_of scope s) f)))
+    × (IsFirst (rest_faults scope s) f ⊎ ((rest_faults scope s ≡ []) × IsReachFault (matches_of scope s) f)))
 
 -- a statement binds to a block: no round has a fault, and this is its block
 pub record IsBound (scope : Scope) (s : Statement) (block : Block) : Type 0 where

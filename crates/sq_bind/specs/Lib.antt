@@ -5,8 +5,10 @@ pub mod Operand
 pub mod Compared
 pub mod Condition
 pub mod Statement
+pub mod Columns
 pub mod Ordered
 pub mod Found
+pub mod Settled
 pub mod Answer
 pub mod Given
 pub mod Sound

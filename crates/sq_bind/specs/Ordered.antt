@@ -1,6 +1,7 @@
 -- Serves proofs: what the cells of a name mean, kept under the names in lower case.
 use Rattle.std.specs.Prelude.{◌≡◌, ℕ, ◌+◌, Bool, true, ◌&&◌, ◌==◌, if◌then◌else◌, List, [], ◌∷◌, Option, None, Some, Result, Ok, Err, String, string_bytes}
-use Rattle.std.specs.Str.{bytes_eq}
+use Rattle.std.specs.Cmp.Lexicographic.{slice_cmp}
+use Rattle.std.specs.Ordering.{is_eq, nat_cmp}
 use Rattle.std.specs.Map.{lookup}
 use Rattle.sq_value.specs.Name.{lower}
 use Rattle.sq_expr.specs.declared.shape.AggKind.{AggKind}
@@ -43,4 +44,5 @@ told at m = if m.is_one then Ok (sort.Cell m.place) else Err (AmbiguousColumn at
 -- what is kept under each name is what its cells mean
 unfoldable pub HoldsCells : {A : Type 0} → List (String A × Meant) → List Cell → Type 0
 HoldsCells entries cells =
-    (name : List ℕ) → lookup (λ key. bytes_eq (lower name) (string_bytes key)) entries ≡ meant_among name cells
+    (name : List ℕ)
+    → lookup (λ key. is_eq (slice_cmp nat_cmp (lower name) (string_bytes key))) entries ≡ meant_among name cells

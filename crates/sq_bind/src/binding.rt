@@ -13,6 +13,7 @@ ghost use Rattle.sq_bind.specs.Found.{matches_with};
 ghost use Rattle.sq_bind.specs.Ordered.{HoldsCells};
 ghost use Rattle.sq_bind.specs.Reached.{first_unreached};
 ghost use Rattle.sq_bind.specs.Seen.{seen};
+ghost use Rattle.sq_bind.specs.Settled.{IsSettledShape};
 ghost use Rattle.sq_bind.specs.Statement as spec;
 ghost use Rattle.sq_bind.specs.Statement.{faults_among, plain_block};
 ghost use Rattle.sq_bind.specs.Given.{IsParsed, AreAccesses, over};
@@ -23,10 +24,11 @@ ghost use Rattle.sq_bind.specs.declared.shaped.Shaped.{Shaped};
 
 use crate::alias::aliases_of;
 use crate::block::{matches_of, rest_fault, shape_of};
+use crate::columns::{Grouping, ShownCells};
 use crate::fault::BindFault;
 use crate::group::grouping_of;
 use crate::order::Sortable;
-use crate::output::{Meant, meanings_of};
+use crate::output::{Meanings, meanings_of};
 use crate::part::{placed_of, places_of};
 use crate::plain::plain_of;
 use crate::reach::first_unreached;
@@ -35,8 +37,7 @@ use crate::shaped::Shaped;
 use crate::source::{from_fault, tables_of};
 use crate::visible::SeenAlias;
 use catalogue::Catalogue;
-use indexmap::IndexMap;
-use sq_expr::{Access, Block, Cell, ColumnOf};
+use sq_expr::{Access, Block};
 use sq_parse::{Statement, is_grouped};
 use sq_value::{Memory, Predicates};
 use std::alloc::Global;
@@ -48,9 +49,9 @@ fn fault_of<F: Predicates>(
     functions: &F,
     aliases: &[SeenAlias<'_>],
     statement: &Statement,
-    names: &IndexMap<String, Meant>,
-    keys: &[ColumnOf],
-    cells: &[Cell],
+    names: &Meanings,
+    keys: &Grouping,
+    cells: &ShownCells,
 ) -> Result<Option<BindFault>, Memory>
     requires seen { length statement.now.sources ≤ length aliases.now }
     requires keys { keys.now ≡ spec.grouping_of (map seen aliases.now) statement.now.groups }
@@ -99,20 +100,21 @@ fn shaped_or_fault<F: Predicates>(
 {
     let cells = cells_of(alloc, aliases, &statement.items)?;
     let keys = grouping_of(alloc, aliases, statement.groups.as_slice())?;
-    let names = meanings_of(alloc, cells.as_slice())?;
-    let fault = fault_of(
-        alloc,
-        functions,
-        aliases,
-        statement,
-        &names,
-        keys.as_slice(),
-        cells.as_slice(),
-    )?;
+    let keys = Grouping::of(alloc, keys)?;
+    let cells = ShownCells::of(alloc, cells)?;
+    let names = meanings_of(alloc, cells.cells())?;
+    let fault = fault_of(alloc, functions, aliases, statement, &names, &keys, &cells)?;
     if let Some(fault) = fault {
         return Err(fault);
     }
-    let shape = shape_of(alloc, aliases, statement, &names, keys, cells)?;
+    let shape = shape_of(
+        alloc,
+        aliases,
+        statement,
+        &names,
+        keys.into_columns(),
+        cells.into_cells(),
+    )?;
     let placed = placed_of(alloc, functions, aliases, statement)?;
     let block = matches_of(alloc, accesses, found, aliases, placed)?;
     Ok(Shaped { block, shape })
@@ -237,7 +239,7 @@ pub fn bind<F: Predicates>(
 /// The rules are those of SQL-92 on grouped tables and DISTINCT. A name of ORDER BY is first a cell's; cells
 /// of one name that show the same column by the same set function are one.
 /// The time goes with the length of the statement times the number of columns that are seen, and with that
-/// of the select list and ORDER BY times the number of columns of GROUP BY and cells.
+/// of the select list and ORDER BY times the logarithm of the number of cells.
 ///
 /// # Errors
 /// As those of [`bind`], and in the second round:
@@ -265,6 +267,7 @@ pub fn bind_shape<F: Predicates>(
         → MatchResult result (λ found. found ≡ shaped) (λ f. f ≡ BindFault.Memory) }
     ensures fits { IfOk result (λ made. IsFit (F.kinds_of functions.now) catalogue.now.tables made.block) }
     ensures shape_fits { IfOk result (λ made. FitsShape catalogue.now.tables made.block made.shape) }
+    ensures settled { IfOk result (λ made. IsSettledShape made.shape) }
     ensures reachable { IfOk result (λ made. IsReachable made.block) }
     ensures unordered { IfOk result (λ made. made.block.order ≡ []) }
     ensures fault { let calls = calling (F.number_of functions.now) (F.kinds_of functions.now) in

@@ -13,12 +13,11 @@ use crate::conjunct::Placed;
 use crate::fault::{BindFault, sooner};
 use crate::group::{grouped_fault, groups_fault};
 use crate::order::{Sortable, keys_fault, order_of};
-use crate::output::Meant;
+use crate::output::Meanings;
 use crate::part::{extra_fault, parts_fault};
 use crate::select::{selected_fault, spelled};
 use crate::span::conjuncts_of;
 use crate::visible::SeenAlias;
-use indexmap::IndexMap;
 use sq_expr::{Access, Block, Cell, ColumnOf, OutCol, Shape};
 use sq_parse::{Statement, is_grouped};
 use sq_value::{Memory, Predicates, SqText};
@@ -35,7 +34,7 @@ pub fn rest_fault<F: Predicates>(
     functions: &F,
     aliases: &[SeenAlias<'_>],
     statement: &Statement,
-    names: &IndexMap<String, Meant>,
+    names: &Meanings,
     by: Sortable<'_>,
     places: &[u32],
 ) -> Result<Option<BindFault>, Memory>
@@ -108,7 +107,7 @@ pub fn shape_of(
     alloc: Global,
     aliases: &[SeenAlias<'_>],
     statement: &Statement,
-    names: &IndexMap<String, Meant>,
+    names: &Meanings,
     keys: Vec<ColumnOf>,
     cells: Vec<Cell>,
 ) -> Result<Shape, Memory>

@@ -6,9 +6,9 @@ ghost use Rattle.sq_bind.specs.Fault.{first_of};
 ghost use Rattle.sq_bind.specs.Statement as spec;
 ghost use Rattle.sq_bind.specs.Seen.{seen};
 
+use crate::columns::Grouping;
 use crate::fault::{BindFault, sooner};
 use crate::operand::column_fault;
-use crate::output::is_one_column;
 use crate::select::{cells_of, item_cells};
 use crate::visible::{SeenAlias, place_of, resolve};
 use sq_expr::{Cell, ColumnOf};
@@ -63,26 +63,14 @@ pub fn groups_fault(aliases: &[SeenAlias<'_>], groups: &[ColRef]) -> Option<Bind
     fault
 }
 
-/// Whether a column is one of GROUP BY.
-pub fn is_grouping(keys: &[ColumnOf], column: ColumnOf) -> bool
-    ensures { result ≡ spec.is_grouping keys.now column }
-{
-    for key in keys {
-        if is_one_column(column, *key) {
-            return true;
-        }
-    }
-    false
-}
-
 // Whether a cell has one value in each group.
-fn is_settled(keys: &[ColumnOf], cell: &Cell) -> bool
+fn is_settled(keys: &Grouping, cell: &Cell) -> bool
     ensures { result ≡ spec.is_settled keys.now cell.now }
 {
-    cell.agg.is_some() || is_grouping(keys, cell.column)
+    cell.agg.is_some() || keys.has(cell.column)
 }
 
-fn are_settled(keys: &[ColumnOf], cells: &[Cell]) -> bool
+fn are_settled(keys: &Grouping, cells: &[Cell]) -> bool
     ensures { result ≡ list_all (spec.is_settled keys.now) cells.now }
 {
     for cell in cells {
@@ -93,7 +81,7 @@ fn are_settled(keys: &[ColumnOf], cells: &[Cell]) -> bool
     true
 }
 
-fn unsettled_fault(keys: &[ColumnOf], at: u32, cells: &[Cell]) -> Option<BindFault>
+fn unsettled_fault(keys: &Grouping, at: u32, cells: &[Cell]) -> Option<BindFault>
     ensures { result ≡ first_of (spec.unsettled_faults keys.now at cells.now) }
 {
     if are_settled(keys, cells) {
@@ -116,7 +104,7 @@ fn item_place(item: &Item) -> u32
 fn item_fault(
     alloc: Global,
     aliases: &[SeenAlias<'_>],
-    keys: &[ColumnOf],
+    keys: &Grouping,
     item: &Item,
 ) -> Result<Option<BindFault>, Memory>
     ensures { IfOk result (λ fault. fault ≡ first_of (spec.unsettled_faults keys.now (spec.item_place item.now)
@@ -129,7 +117,7 @@ fn item_fault(
 fn items_fault(
     alloc: Global,
     aliases: &[SeenAlias<'_>],
-    keys: &[ColumnOf],
+    keys: &Grouping,
     items: &[Item],
 ) -> Result<Option<BindFault>, Memory>
     ensures { IfOk result (λ fault. fault ≡ first_of (flat_map (λ i. spec.unsettled_faults keys.now (spec.item_place i)
@@ -154,7 +142,7 @@ fn star_place(sources: &[Source]) -> u32
 fn selected_fault(
     alloc: Global,
     aliases: &[SeenAlias<'_>],
-    keys: &[ColumnOf],
+    keys: &Grouping,
     star: u32,
     items: &Selected,
 ) -> Result<Option<BindFault>, Memory>
@@ -179,7 +167,7 @@ fn selected_fault(
 pub fn grouped_fault(
     alloc: Global,
     aliases: &[SeenAlias<'_>],
-    keys: &[ColumnOf],
+    keys: &Grouping,
     statement: &Statement,
 ) -> Result<Option<BindFault>, Memory>
     requires { keys.now ≡ spec.grouping_of (map seen aliases.now) statement.now.groups }

@@ -4,6 +4,7 @@
 mod alias;
 mod binding;
 mod block;
+mod columns;
 mod condition;
 mod conjunct;
 mod fault;

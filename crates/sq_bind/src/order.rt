@@ -1,7 +1,7 @@
 //! ORDER BY: what it sorts by, and its faults. A cell of a name goes before the columns of FROM.
 
 ghost use Rattle.std.specs.Prelude.{◌≡◌, ℕ, [], List, map, None, IfOk};
-ghost use Rattle.std.specs.List.{flat_map, list_any};
+ghost use Rattle.std.specs.List.{flat_map};
 ghost use Rattle.sq_value.specs.Name.{lower};
 ghost use Rattle.sq_parse.specs.Tree.{column_place};
 ghost use Rattle.sq_expr.specs.declared.shape.Cell.{Cell};
@@ -13,12 +13,11 @@ ghost use Rattle.sq_bind.specs.Ordered.{HoldsCells};
 ghost use Rattle.sq_bind.specs.Seen.{seen};
 ghost use Rattle.sq_bind.specs.Seen as found;
 
+use crate::columns::{Grouping, ShownCells};
 use crate::fault::{BindFault, sooner};
-use crate::group::is_grouping;
-use crate::output::{Meant, is_one_column, meaning};
+use crate::output::{Meanings, Meant, meaning};
 use crate::visible::{SeenAlias, place_of, resolve};
-use indexmap::IndexMap;
-use sq_expr::{Cell, ColumnOf, ShapeOrder, SortOn};
+use sq_expr::{ColumnOf, ShapeOrder, SortOn};
 use sq_parse::{ColRef, OrderItem};
 use sq_value::Memory;
 use sqlite_items::Items;
@@ -48,7 +47,7 @@ fn resolved_column(aliases: &[SeenAlias<'_>], column: &ColRef) -> Result<SortOn,
 // A name without an alias in front, which is given in lower case too.
 fn named_column(
     aliases: &[SeenAlias<'_>],
-    names: &IndexMap<String, Meant>,
+    names: &Meanings,
     column: &ColRef,
     name: &str,
 ) -> Result<SortOn, BindFault>
@@ -66,7 +65,7 @@ fn named_column(
 // What a column of ORDER BY means: a cell of its name, or a column of FROM.
 fn order_on(
     aliases: &[SeenAlias<'_>],
-    names: &IndexMap<String, Meant>,
+    names: &Meanings,
     column: &ColRef,
     name: &str,
 ) -> Result<SortOn, BindFault>
@@ -86,35 +85,17 @@ fn order_on(
 pub struct Sortable<'a> {
     pub distinct: bool,
     pub grouped: bool,
-    pub keys: &'a [ColumnOf],
-    pub cells: &'a [Cell],
-}
-
-// Whether a cell shows a column as it is.
-fn shows(column: ColumnOf, cell: &Cell) -> bool
-    ensures { result ≡ spec.shows column cell.now }
-{
-    cell.agg.is_none() && is_one_column(column, cell.column)
-}
-
-fn is_shown(column: ColumnOf, cells: &[Cell]) -> bool
-    ensures { result ≡ list_any (spec.shows column) cells.now }
-{
-    for cell in cells {
-        if shows(column, cell) {
-            return true;
-        }
-    }
-    false
+    pub keys: &'a Grouping,
+    pub cells: &'a ShownCells,
 }
 
 // A column that no cell names.
 fn sorted_fault(by: Sortable<'_>, at: u32, column: ColumnOf) -> Option<BindFault>
     ensures { result ≡ first_of (spec.sorted_faults (found.sorting by.entry) at column) }
 {
-    if by.distinct && !is_shown(column, by.cells) {
+    if by.distinct && !by.cells.shows(column) {
         Some(BindFault::NotSelected { at })
-    } else if by.grouped && !is_grouping(by.keys, column) {
+    } else if by.grouped && !by.keys.has(column) {
         Some(BindFault::NotGrouped { at })
     } else {
         None
@@ -134,7 +115,7 @@ fn order_fault(by: Sortable<'_>, at: u32, on: Result<SortOn, BindFault>) -> Opti
 fn key_fault(
     alloc: Global,
     aliases: &[SeenAlias<'_>],
-    names: &IndexMap<String, Meant>,
+    names: &Meanings,
     by: Sortable<'_>,
     key: &OrderItem,
 ) -> Result<Option<BindFault>, Memory>
@@ -154,7 +135,7 @@ fn key_fault(
 pub fn keys_fault(
     alloc: Global,
     aliases: &[SeenAlias<'_>],
-    names: &IndexMap<String, Meant>,
+    names: &Meanings,
     by: Sortable<'_>,
     order: &[OrderItem],
 ) -> Result<Option<BindFault>, Memory>
@@ -172,7 +153,7 @@ pub fn keys_fault(
 fn key_of(
     alloc: Global,
     aliases: &[SeenAlias<'_>],
-    names: &IndexMap<String, Meant>,
+    names: &Meanings,
     key: &OrderItem,
 ) -> Result<ShapeOrder, Memory>
     ensures { (cells : List Cell) → HoldsCells names.now.entries cells
@@ -201,7 +182,7 @@ fn key_of(
 pub fn order_of(
     alloc: Global,
     aliases: &[SeenAlias<'_>],
-    names: &IndexMap<String, Meant>,
+    names: &Meanings,
     order: &[OrderItem],
 ) -> Result<Items<ShapeOrder>, Memory>
     ensures { (cells : List Cell) → HoldsCells names.now.entries cells

@@ -1,16 +1,16 @@
 //! The names of the cells, in lower case, with what each means to ORDER BY.
 
 ghost use Rattle.std.specs.Prelude.{◌≡◌, ◌<◌, [], ◌∷◌, ◌++◌, List, length, IfOk, OnOk};
-ghost use Rattle.std.specs.HashMap.{get_by_text};
+ghost use Rattle.std.specs.BTreeMap.{get_by_text};
 ghost use Rattle.sq_expr.specs.declared.shape.Cell.{Cell};
 ghost use Rattle.sq_bind.specs.Ordered as spec;
 ghost use Rattle.sq_bind.specs.Ordered.{HoldsCells};
 ghost use Rattle.sq_bind.specs.Statement as statement;
 
-use indexmap::IndexMap;
 use sq_expr::{AggKind, Cell, ColumnOf};
 use sq_value::Memory;
 use std::alloc::Global;
+use std::collections::BTreeMap;
 
 /// What the cells of one name mean: the first of them by its place, and whether all show what it shows.
 #[derive(Clone, Copy, Debug)]
@@ -20,6 +20,10 @@ pub struct Meant {
     pub column: ColumnOf,
     pub is_one: bool,
 }
+
+/// What each name means, under the names in lower case. They are kept in order, so that no choice of names
+/// makes a look-up slow.
+pub type Meanings = BTreeMap<String, Meant>;
 
 // The number of a set function, which tells it apart.
 fn agg_number(agg: Option<AggKind>) -> u8
@@ -69,19 +73,14 @@ fn meant_with(place: u32, known: Option<Meant>, cell: &Cell) -> Meant
 }
 
 /// What the cells of a name mean, which is given in lower case.
-pub fn meaning(names: &IndexMap<String, Meant>, lower: &str) -> Option<Meant>
+pub fn meaning(names: &Meanings, lower: &str) -> Option<Meant>
     ensures { result ≡ get_by_text names.now lower.now }
 {
     names.get(lower).copied()
 }
 
 // Puts one more cell behind the others.
-fn put_cell(
-    alloc: Global,
-    names: &mut IndexMap<String, Meant>,
-    place: u32,
-    cell: &Cell,
-) -> Result<(), Memory>
+fn put_cell(alloc: Global, names: &mut Meanings, place: u32, cell: &Cell) -> Result<(), Memory>
     ensures { (front : List Cell) → length front ≡ place → HoldsCells names.old.entries front
         → OnOk result (HoldsCells names.new.entries (front ++ cell.now ∷ [])) }
 {
@@ -92,11 +91,11 @@ fn put_cell(
 }
 
 // The names of cells whose places are known to be numbers of 32 bits.
-fn names_of(alloc: Global, cells: &[Cell]) -> Result<IndexMap<String, Meant>, Memory>
+fn names_of(alloc: Global, cells: &[Cell]) -> Result<Meanings, Memory>
     requires { length cells.now < 4294967296 }
     ensures { IfOk result (λ names. HoldsCells names.entries cells.now) }
 {
-    let mut names = IndexMap::new(alloc);
+    let mut names = BTreeMap::new(alloc);
     for (index, cell) in cells.iter().enumerate() {
         put_cell(alloc, &mut names, index as u32, cell)?;
     }
@@ -107,7 +106,7 @@ fn names_of(alloc: Global, cells: &[Cell]) -> Result<IndexMap<String, Meant>, Me
 ///
 /// # Errors
 /// `Memory`: there is no memory for the names, or there are more than 4,294,967,295 cells.
-pub fn meanings_of(alloc: Global, cells: &[Cell]) -> Result<IndexMap<String, Meant>, Memory>
+pub fn meanings_of(alloc: Global, cells: &[Cell]) -> Result<Meanings, Memory>
     ensures { IfOk result (λ names. HoldsCells names.entries cells.now) }
 {
     if cells.len() > 4_294_967_295 {
