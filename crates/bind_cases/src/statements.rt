@@ -233,3 +233,43 @@ fn statements_are_bound(rt: HostRuntime) -> Result<(), Fail> {
     }
     Ok(())
 }
+
+// A statement with so many cells, whose names are one word to the hash of the library's maps, sorted by the last.
+fn names_of_one_word(alloc: Global, count: u32) -> Result<String, Fail> {
+    let mut text = String::from_str(alloc, "SELECT x AS last")?;
+    for number in 0..count {
+        let name = format!(in alloc; "{}0123456789abcdef", 10_000_000 + u64::from(number))?;
+        text.push_str(", x AS \"auamwgvwmouqottq( 2oah_(")?;
+        text.push_str(name.as_str())?;
+        text.push_str("\"")?;
+    }
+    text.push_str(" FROM n ORDER BY last")?;
+    Ok(text)
+}
+
+// What binding says of it.
+fn names_text(alloc: Global, catalogue: &Catalogue, count: u32) -> Result<String, Fail> {
+    let accesses = ways_of_words(alloc, "s s s s s s s s s s s s")?;
+    if !are_ways_of(catalogue.tables(), accesses.as_slice()) {
+        return Ok(String::from_str(alloc, "no accesses")?);
+    }
+    let text = names_of_one_word(alloc, count)?;
+    if text.len() > 9_999_999 {
+        return Ok(String::from_str(alloc, "too long")?);
+    }
+    script_text(
+        alloc,
+        Asked::Length,
+        catalogue,
+        accesses.as_slice(),
+        text.as_bytes(),
+    )
+}
+
+#[test]
+fn many_names_are_bound(rt: HostRuntime) -> Result<(), Fail> {
+    let catalogue = catalogue(rt.alloc())?;
+    let told = names_text(rt.alloc(), &catalogue, 20_000)?;
+    assert_eq!(rt; told.as_str(), "block 0");
+    Ok(())
+}

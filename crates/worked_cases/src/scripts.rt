@@ -259,11 +259,49 @@ fn wrong_shaped(alloc: Global, scripts: &[&'static str]) -> Result<&'static str,
     Ok("")
 }
 
+// Whether the front of a script up to the end of a token spells a script, or is refused at its end.
+fn is_cut_told(alloc: Global, script: &str, to: usize) -> Result<bool, Fail> {
+    let Some(front) = script.as_bytes().get(..to) else {
+        return Ok(false);
+    };
+    if front.len() > 999 {
+        return Ok(false);
+    }
+    let found = answer(alloc, front)?;
+    let end = format!(in alloc; "Syntax {to}")?;
+    Ok(found.as_str() == "tree" || found.as_str() == end.as_str())
+}
+
+// Whether all fronts of a script that end with a token are told so.
+fn are_cuts_told(alloc: Global, script: &str) -> Result<bool, Fail> {
+    if script.len() > 999 {
+        return Ok(false);
+    }
+    let found = tokens(alloc, script)?;
+    for token in found.iter() {
+        if !is_cut_told(alloc, script, token.span.to as usize)? {
+            return Ok(false);
+        }
+    }
+    Ok(!found.is_empty())
+}
+
+// The first of these scripts with a front of whole tokens that is told otherwise, or nothing.
+fn wrong_cut(alloc: Global, scripts: &[&'static str]) -> Result<&'static str, Fail> {
+    for script in scripts {
+        if !are_cuts_told(alloc, script)? {
+            return Ok(script);
+        }
+    }
+    Ok("")
+}
+
 #[test]
 fn odd_texts_and_fronts_are_told(rt: HostRuntime) -> Result<(), Fail> {
     assert_eq!(rt; wrong_text(rt.alloc())?, "");
     assert_eq!(rt; wrong_front(rt.alloc(), faults::FRONTS)?, "");
     assert_eq!(rt; wrong_shaped(rt.alloc(), &faults::SHAPED)?, "");
+    assert_eq!(rt; wrong_cut(rt.alloc(), &faults::SHAPED)?, "");
     let big = told(rt.alloc(), Asked::Tree, BIG_SPENDERS)?;
     assert_eq!(rt; big.as_str(), trees::BIG_TREE);
     Ok(())
