@@ -50,7 +50,7 @@ struct Pairs {
 }
 
 // A gate at which no worker holds a module.
-fn pairs(alloc: Global) -> Result<Pairs, Fail> {
+fn make_pairs(alloc: Global) -> Result<Pairs, Fail> {
     let mut holds = Vec::new(alloc);
     for _ in 0..17 {
         holds.push(AtomicU64::new(0))?;
@@ -172,7 +172,7 @@ fn join_told<R: Threads + Wait + Sync>(
     requires workers { (0 < workers) × (workers ≤ 16) }
 {
     let catalogue = catalogue_of_lines(alloc, TABLES)?;
-    let gate = pairs(alloc)?;
+    let gate = make_pairs(alloc)?;
     match block_of_case(alloc, &catalogue, ways, ORDERS, &NoPredicates)? {
         Some(block) => {
             let tables = catalogue.tables();
