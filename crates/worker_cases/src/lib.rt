@@ -6,8 +6,6 @@
 #[cfg(test)]
 mod cached;
 #[cfg(test)]
-mod gates;
-#[cfg(test)]
 mod joins;
 #[cfg(test)]
 mod numbers;
