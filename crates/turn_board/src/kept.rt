@@ -1,20 +1,18 @@
 //! What a board keeps in its slots.
-ghost use Rattle.std.specs.Prelude.{◌≡◌, ◌≤◌, ℕ, List, length, Bool};
+ghost use Rattle.std.specs.Prelude.{◌≡◌, ℕ, List, length, Bool};
 ghost use mathlib.Core.List.{IsPrefix};
-ghost use Rattle.turn_board.specs.Views.{unended as count_unended};
+ghost use Rattle.turn_board.specs.Views.{unended as count_unended, AreLaterEnds};
 
 /// A state module: a value that seats take out by turns.
 ///
 /// It stands for a plan, a history of entries that only grows, and a list of marks. One state
-/// *extends* another where it is a later state of the same module.
+/// *extends* another where it is a later state of the same module: each mark is still at its place, and one that was
+/// ended stays ended.
 pub trait Kept {
     type Plan;
 
     // What it was made for.
     ghost plan: { Self → Self.Plan };
-
-    // How many rows the plan's table has.
-    ghost rows: { Self.Plan → ℕ };
 
     // The entries, each a row and a stamp, in order.
     ghost history: { Self → List (ℕ × ℕ) };
@@ -45,5 +43,5 @@ pub trait Kept {
 
     ghost history_grows: { (x y : Self) → extends x y → IsPrefix (history x) (history y) };
 
-    ghost marks_grow: { (x y : Self) → extends x y → length (marks x) ≤ length (marks y) };
+    ghost marks_grow: { (x y : Self) → extends x y → AreLaterEnds (marks x) (marks y) };
 }

@@ -13,6 +13,7 @@ use Rattle.turn_board.specs.Views.{unended, debts}
 use Rattle.turn_board.specs.Plays.{only, Sat, noted, noted_in, marked, marked_by, gave, slot_of}
 use Rattle.turn_board.specs.PoolPlays.{bound_by}
 use Rattle.turn_board.specs.Boards.{Completes, view}
+use Rattle.turn_board.proofs.Debts.{ends_longer}
 use Rattle.turn_board.proofs.Rosters.{length_set}
 use Rattle.turn_board.proofs.Completions.{completes_before}
 use Rattle.turn_board.proofs.Seats.{one_as, seat_as, set_most, set_more}
@@ -52,7 +53,7 @@ mark_as-requires-clause-hold g c = let b = c.requires.busy in let h = b.2 in let
       h.unmarked,
       h.slot,
       saw2,
-      subst (λ (y : g.row.K.Denot). length (g.K.Kept.marks y) ≤ length (g.K.Kept.marks z)) (sym h.taken) (g.met.K.Kept.marks_grow b.0 z b.3),
+      subst (λ (y : g.row.K.Denot). length (g.K.Kept.marks y) ≤ length (g.K.Kept.marks z)) (sym h.taken) (ends_longer (g.K.Kept.marks b.0) (g.K.Kept.marks z) (g.met.K.Kept.marks_grow b.0 z b.3)),
       subst (λ (y : g.row.K.Denot). unended (g.K.Kept.marks y) ≤ slice_index (only c.note_as.new.token.me.0).owed m + unended (g.K.Kept.marks z)) (sym h.taken) (omega (arith, b.5, owed)),
       subst (λ (x : SeatView g.row.K.Denot g.row.T.Denot × Option (Hold g.row.K.Denot)). debts (marked_by g.K.Kept.marks x.0 z x.1) ≤ 1) (λ i. (sym (ap (λ (u : Sat g.row.K.Denot g.row.T.Denot). only u.0) me2) i, has1 i)) c.requires.thrifty,
       c.marked-marks.ensures,
