@@ -6,6 +6,8 @@
 #[cfg(test)]
 mod cached;
 #[cfg(test)]
+mod gates;
+#[cfg(test)]
 mod joins;
 #[cfg(test)]
 mod numbers;
