@@ -1,0 +1,6 @@
+use Rattle.std.proofs.Common.{◌≡◌, map, take}
+use Rattle.remote_lookup.specs.Working.{empty_of}
+use Rattle.remote_lookup.proofs.rounds.empty_tables.Given as goal
+
+abbrev pub invariant-loop-remote : goal.invariant-loop-remote
+invariant-loop-remote g l = l.tables.items ≡ map (empty_of l.query.tables.now) (take l.remote-index l.query.remotes.now)

@@ -1,0 +1,13 @@
+pub mod Thinned
+pub mod Filled
+pub mod Needed
+pub mod Rounds
+pub mod KeyFiles
+pub mod Loaded
+pub mod Asked
+pub mod Own
+pub mod Asks
+pub mod Asking
+pub mod Reading
+pub mod Gathered
+pub mod Working
