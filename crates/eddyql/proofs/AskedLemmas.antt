@@ -5,7 +5,8 @@ use Rattle.command_line.specs.Form.{command}
 use Rattle.command_line.specs.declared.command.Command.{Command}
 use Rattle.command_line.specs.Within.{IsTask, IsWithin}
 use Rattle.run_answers.specs.Settings.{AreSettings}
-use Rattle.eddyql.specs.Asked.{request_of, is_run, if_run, asked}
+use Rattle.std.specs.Option.{option_map_or}
+use Rattle.eddyql.specs.Asked.{request_of, is_run, if_run, asked, loads_none, are_fileless}
 use Rattle.eddyql.specs.declared.asking.Request.{Request}
 
 pub asked_of : (words : List (List ℕ)) (c : Command) (r : Request) → command words ≡ Some c → r ≡ request_of c → is_run r.task ≡ true
@@ -29,3 +30,7 @@ asked_none words e = ap (λ (o : Option Command). option_and_then if_run (option
 -- what is asked for is within what the words may ask for
 pub request_within : (c : Command) → IsWithin c → IsTask (request_of c).task × AreSettings (request_of c).settings
 request_within c w = (w.task, record { some = w.some; few = w.few; script = w.route; room = w.cache })
+
+-- the demo loads no file
+pub fileless_by : (words : List (List ℕ)) (a : Request) → asked words ≡ Some a → are_fileless words ≡ true → loads_none a.task ≡ true
+fileless_by words a is e = sym (ap (λ (o : Option Request). option_map_or (λ (r : Request). loads_none r.task) o true) is) ∙ e

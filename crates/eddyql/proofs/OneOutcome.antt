@@ -1,8 +1,7 @@
--- Words over files have one outcome.
+-- Words over what is given have one outcome.
 use Rattle.std.proofs.Common.{◌≡◌, ℕ, ◌+◌, ◌%◌, ◌<◌, Bool, true, false, List, [], ◌∷◌, length, get_or, Option, Some, None, Result, Ok, Err, refl, sym, ◌∙◌, ap, subst, ◌⊎◌, inl, inr}
 use Rattle.std.specs.Prelude.{All}
 use Rattle.std.proofs.lemmas.List.Elements.{All-head, All-tail, Contains-get_or}
-use Rattle.outside.specs.Files.{File}
 use Rattle.sq_parse.specs.Fault.{ReadsAs}
 use Rattle.sq_parse.specs.Shaped.{is_shaped}
 use Rattle.sq_parse.specs.declared.parser.ParseFault.{ParseFault}
@@ -27,6 +26,7 @@ use Rattle.command_line.specs.declared.command.Task.TheVariants as task
 use Rattle.demo_tables.specs.Demo.{demo}
 use Rattle.run_plan.specs.DemoScript.{demo_script}
 use Rattle.run_plan.specs.Accesses.{accesses_read}
+use Rattle.run_plan.specs.Given.{Given}
 use Rattle.run_plan.specs.Faults.{script_status, bind_status}
 use Rattle.run_plan.specs.Files.{file_read, catalogue_read}
 use Rattle.run_plan.specs.Prepared.{IsSpelled, IsScript, IsBoundAs, IsBoundTo, AreBoundTo, IsBoundPlan, IsPlan, IsDemoPlan, Predicates}
@@ -95,8 +95,8 @@ one_blocks scope number (s ∷ more) x y h k =
 
 -- ---- all of a run
 
-one_script : (files : List File) (name : List ℕ) → IsOne (IsScript files name)
-one_script files name = one_then (ComesTo (file_read file.Script files name)) IsSpelled (one_given (file_read file.Script files name)) one_spelled
+one_script : (found : Option (List ℕ)) → IsOne (IsScript found)
+one_script found = one_then (ComesTo (file_read file.Script found)) IsSpelled (one_given (file_read file.Script found)) one_spelled
 
 one_bound_plan : (p : Predicates) (asks : List AccessWord) (script : Script) (catalogue : NamedTables) → IsOne (IsBoundPlan p asks script catalogue)
 one_bound_plan p asks script catalogue =
@@ -108,13 +108,13 @@ one_bound_plan p asks script catalogue =
     (λ blocks. ComesTo (Ok record { statements = blocks; catalogue = catalogue }))
     (one_blocks (over catalogue accesses p.calls) 1 script.statements) (λ blocks. one_given (Ok record { statements = blocks; catalogue = catalogue })))
 
-one_plan : (p : Predicates) (q : Query) (files : List File) → IsOne (IsPlan p q files)
+one_plan : (p : Predicates) (q : Query) (given : Given) → IsOne (IsPlan p q given)
 unfolding IsPlan
-one_plan p q files =
-    one_then (IsScript files q.script) (λ script. AndThen (ComesTo (catalogue_read files q.tables)) (λ catalogue. IsBoundPlan p q.accesses script catalogue))
-    (one_script files q.script)
-    (λ script. one_then (ComesTo (catalogue_read files q.tables)) (λ catalogue. IsBoundPlan p q.accesses script catalogue)
-    (one_given (catalogue_read files q.tables)) (one_bound_plan p q.accesses script))
+one_plan p q given =
+    one_then (IsScript given.script) (λ script. AndThen (ComesTo (catalogue_read given.tables q.tables)) (λ catalogue. IsBoundPlan p q.accesses script catalogue))
+    (one_script given.script)
+    (λ script. one_then (ComesTo (catalogue_read given.tables q.tables)) (λ catalogue. IsBoundPlan p q.accesses script catalogue)
+    (one_given (catalogue_read given.tables q.tables)) (one_bound_plan p q.accesses script))
 
 one_demo : (p : Predicates) (rows seed : ℕ) → IsOne (IsDemoPlan p rows seed)
 unfolding IsDemoPlan
@@ -122,17 +122,17 @@ one_demo p rows seed =
     one_then (IsSpelled demo_script) (λ script. IsBoundPlan p [] script (demo rows (seed % 1000))) (one_spelled demo_script)
     (λ script. one_bound_plan p [] script (demo rows (seed % 1000)))
 
-one_requested : (p : Predicates) (t : Task) (seed : ℕ) (files : List File) → IsOne (IsTaskPlan p t seed files)
-one_requested p (task.Query q) seed files = one_plan p q files
-one_requested p (task.Demo rows) seed files = one_demo p rows seed
+one_requested : (p : Predicates) (t : Task) (seed : ℕ) (given : Given) → IsOne (IsTaskPlan p t seed given)
+one_requested p (task.Query q) seed given = one_plan p q given
+one_requested p (task.Demo rows) seed given = one_demo p rows seed
 
-one_planned : (p : Predicates) (words : List (List ℕ)) (files : List File) → IsOne (IsPlanned p words files)
-one_planned p words files =
-    one_then (ComesTo (or_refuse status.Usage (asked words))) (λ a. IsRequested p a files) (one_given (or_refuse status.Usage (asked words)))
-    (λ a. one_requested p a.task a.settings.seed files)
+one_planned : (p : Predicates) (words : List (List ℕ)) (given : Given) → IsOne (IsPlanned p words given)
+one_planned p words given =
+    one_then (ComesTo (or_refuse status.Usage (asked words))) (λ a. IsRequested p a given) (one_given (or_refuse status.Usage (asked words)))
+    (λ a. one_requested p a.task a.settings.seed given)
 
-pub same_outcome : (p : Predicates) (words : List (List ℕ)) (files : List File) (x y : Due) → IsOutcome p words files x → IsOutcome p words files y → x ≡ y
-same_outcome p words files x y h k = h.2 ∙ ap due_by (one_planned p words files h.0 k.0 h.1 k.1) ∙ sym k.2
+pub same_outcome : (p : Predicates) (words : List (List ℕ)) (given : Given) (x y : Due) → IsOutcome p words given x → IsOutcome p words given y → x ≡ y
+same_outcome p words given x y h k = h.2 ∙ ap due_by (one_planned p words given h.0 k.0 h.1 k.1) ∙ sym k.2
 
 -- ---- there is one
 
@@ -154,9 +154,9 @@ some_given r = (r, refl)
 some_spelled : (text : List ℕ) → Comes (IsSpelled text)
 some_spelled text = let r = one_reading text in (or_fault script_status r.0, (r.0, r.1, refl))
 
-some_script : (files : List File) (name : List ℕ) → Comes (IsScript files name)
-some_script files name =
-    some_then (ComesTo (file_read file.Script files name)) IsSpelled (some_given (file_read file.Script files name)) (λ text h. some_spelled text)
+some_script : (found : Option (List ℕ)) → Comes (IsScript found)
+some_script found =
+    some_then (ComesTo (file_read file.Script found)) IsSpelled (some_given (file_read file.Script found)) (λ text h. some_spelled text)
 
 some_block : (scope : Scope) (number : ℕ) (s : Statement) → 0 < length s.sources → Comes (IsBoundTo scope number s)
 some_block scope number s some = by (is_shaped s) refl
@@ -198,8 +198,8 @@ sources_read text script (Ok found) h e =
     (λ k d within. (parsed_sound (get_or found.statements k d)
     (record { text = text; script = found; spelled = h.1; among = Contains-get_or found.statements k d within })).some_source)
 
-sources_of : (files : List File) (name : List ℕ) (script : Script) → IsScript files name (Ok script) → All HasSource script.statements
-sources_of files name script h = by h.0 h.2
+sources_of : (found : Option (List ℕ)) (script : Script) → IsScript found (Ok script) → All HasSource script.statements
+sources_of found script h = by h.0 h.2
   where
     by : (r : Result (List ℕ) Status) → Behind IsSpelled r (Ok script) → All HasSource script.statements
     by (Err s) k = absurd cc
@@ -215,13 +215,13 @@ some_bound_plan p asks script catalogue all =
     (λ blocks. ComesTo (Ok record { statements = blocks; catalogue = catalogue }))
     (some_blocks (over catalogue accesses p.calls) 1 script.statements all) (λ blocks k. some_given (Ok record { statements = blocks; catalogue = catalogue })))
 
-some_plan : (p : Predicates) (q : Query) (files : List File) → Comes (IsPlan p q files)
+some_plan : (p : Predicates) (q : Query) (given : Given) → Comes (IsPlan p q given)
 unfolding IsPlan
-some_plan p q files =
-    some_then (IsScript files q.script) (λ script. AndThen (ComesTo (catalogue_read files q.tables)) (λ catalogue. IsBoundPlan p q.accesses script catalogue))
-    (some_script files q.script)
-    (λ script h. some_then (ComesTo (catalogue_read files q.tables)) (λ catalogue. IsBoundPlan p q.accesses script catalogue)
-    (some_given (catalogue_read files q.tables)) (λ catalogue k. some_bound_plan p q.accesses script catalogue (sources_of files q.script script h)))
+some_plan p q given =
+    some_then (IsScript given.script) (λ script. AndThen (ComesTo (catalogue_read given.tables q.tables)) (λ catalogue. IsBoundPlan p q.accesses script catalogue))
+    (some_script given.script)
+    (λ script h. some_then (ComesTo (catalogue_read given.tables q.tables)) (λ catalogue. IsBoundPlan p q.accesses script catalogue)
+    (some_given (catalogue_read given.tables q.tables)) (λ catalogue k. some_bound_plan p q.accesses script catalogue (sources_of given.script script h)))
 
 some_demo : (p : Predicates) (rows seed : ℕ) → Comes (IsDemoPlan p rows seed)
 unfolding IsDemoPlan
@@ -229,18 +229,18 @@ some_demo p rows seed =
     some_then (IsSpelled demo_script) (λ script. IsBoundPlan p [] script (demo rows (seed % 1000))) (some_spelled demo_script)
     (λ script h. some_bound_plan p [] script (demo rows (seed % 1000)) (sources_read demo_script script h.0 h.1 h.2))
 
-some_requested : (p : Predicates) (t : Task) (seed : ℕ) (files : List File) → Comes (IsTaskPlan p t seed files)
-some_requested p (task.Query q) seed files = some_plan p q files
-some_requested p (task.Demo rows) seed files = some_demo p rows seed
+some_requested : (p : Predicates) (t : Task) (seed : ℕ) (given : Given) → Comes (IsTaskPlan p t seed given)
+some_requested p (task.Query q) seed given = some_plan p q given
+some_requested p (task.Demo rows) seed given = some_demo p rows seed
 
-some_outcome : (p : Predicates) (words : List (List ℕ)) (files : List File) → (due : Due) × IsOutcome p words files due
-some_outcome p words files =
-    let planned : Comes (IsPlanned p words files) =
-    some_then (ComesTo (or_refuse status.Usage (asked words))) (λ a. IsRequested p a files) (some_given (or_refuse status.Usage (asked words)))
-    (λ a h. some_requested p a.task a.settings.seed files) in
+some_outcome : (p : Predicates) (words : List (List ℕ)) (given : Given) → (due : Due) × IsOutcome p words given due
+some_outcome p words given =
+    let planned : Comes (IsPlanned p words given) =
+    some_then (ComesTo (or_refuse status.Usage (asked words))) (λ a. IsRequested p a given) (some_given (or_refuse status.Usage (asked words)))
+    (λ a h. some_requested p a.task a.settings.seed given) in
     (due_by planned.0, (planned.0, planned.1, refl))
 
 pub one_outcome : OneOutcome
-one_outcome p words files =
-    let due = some_outcome p words files in
-    (due.0, due.1, λ other d. same_outcome p words files other due.0 d due.1)
+one_outcome p words given =
+    let due = some_outcome p words given in
+    (due.0, due.1, λ other d. same_outcome p words given other due.0 d due.1)

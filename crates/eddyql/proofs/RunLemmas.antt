@@ -1,6 +1,5 @@
 -- How a run ends on the notes: its lines of counts, and the line of a refusal.
 use Rattle.std.proofs.Common.{◌≡◌, ◌≢◌, ℕ, Bool, true, List, [], ◌++◌, Option, Some, None, Result, Ok, Err, refl, sym, ◌∙◌, ap, subst, ◌⊎◌, inl, inr, arith}
-use Rattle.outside.specs.Files.{File}
 use Rattle.outside.specs.Faults.{NeverFalls, RoseOrFull}
 use Rattle.outside.specs.Told.{Adds}
 use Rattle.outside.proofs.Laws.{Adds-nothing, Adds-twice, RoseOrFull-earlier}
@@ -8,8 +7,9 @@ use Rattle.command_line.specs.declared.command.TableWord.{TableWord}
 use Rattle.sq_value.specs.declared.value.Value.{Value}
 use Rattle.sq_value.specs.declared.value.Truth.{Truth}
 use Rattle.run_base.specs.Items.{Item}
-use Rattle.run_base.specs.Seen.{Folder, Sink, Outputs, World, sink_seen}
+use Rattle.run_base.specs.Seen.{Folder, Sink, Outputs, World}
 use Rattle.run_plan.specs.Doing.{Went}
+use Rattle.run_plan.specs.Given.{Given}
 use Rattle.run_plan.specs.Prepared.{Predicates}
 use Rattle.run_plan.specs.Refusal.{IsEarly}
 use Rattle.run_plan.specs.declared.plan.Plan.{Plan}
@@ -24,23 +24,24 @@ use Rattle.run_answers.specs.Answering.{Answers, Tallied, LinesPut, EndsSo}
 use Rattle.run_answers.specs.Tally.{IsTally}
 use Rattle.run_answers.specs.declared.stopping.Stop.{Stop}
 use Rattle.run_answers.specs.declared.stopping.Stop.TheVariants as stop
+use Rattle.run_answers.proofs.AnswerLemmas.{same_written, same_faults}
 use Rattle.run_answers.proofs.ProgressLemmas.{tallied_output}
 use Rattle.eddyql.specs.Asked.{asked, names_asked, tables_in, is_tallied}
-use Rattle.eddyql.specs.Ending.{AnsweredBy, Ended, EndedBy, LinedBy, NotedLines, Finished, stop_at, stop_of}
+use Rattle.eddyql.specs.Ending.{AnsweredBy, Ended, EndedBy, LinedBy, NotedLines, Ran, Finished, stop_at, stop_of}
 use Rattle.eddyql.specs.Lines.{SomeLines, RunOf, Progress, IsNotedBehind, MayFail}
-use Rattle.eddyql.specs.Outcome.{IsRequested, due_by, items_of, task_text}
+use Rattle.eddyql.specs.Outcome.{IsGivenFor, IsGivenTo, IsRequested, due_by, items_of, task_text}
 use Rattle.eddyql.specs.declared.asking.Request.{Request}
 use Rattle.eddyql.specs.declared.run.End.{End}
 use Rattle.eddyql.specs.declared.run.End.TheVariants as end
 use Rattle.eddyql.proofs.EndedLemmas.{end_at, answered_done, answered_write, answered_notes, answered_memory, ended_by_other, ended_memory, ended_usage, ended_early, refused_of}
-use Rattle.eddyql.proofs.PlanLemmas.{outcome_planned}
+use Rattle.eddyql.proofs.PlanLemmas.{outcome_planned, some_given}
 use Rattle.eddyql.proofs.StageLemmas.{Done-only}
 
 -- ---- the lines of counts
 
 -- how the answers of a plan ended
-pub plan_done : {room : ℕ} (tally : Bool) (gives : ℕ → Value → Value → Truth) (items : List Item) (text : List Item → List ℕ)
-    (old new : Outputs) (r : Result (Unit {0}) Stop) (x : Unit {0}) → r ≡ Ok x → Answers tally (IsTally room gives) 1 items text old new r
+pub plan_done : {room : ℕ} {O N : Type 0} (tally : Bool) (gives : ℕ → Value → Value → Truth) (items : List Item) (text : List Item → List ℕ)
+    (old new : Outputs O N) (r : Result (Unit {0}) Stop) (x : Unit {0}) → r ≡ Ok x → Answers tally (IsTally room gives) 1 items text old new r
     → AnsweredBy tally old new (text items) (end.By status.Done)
     × Tallied tally (IsTally room gives) 1 items text old new (stop_of (end.By status.Done))
 plan_done {room} tally gives items text old new r x e a =
@@ -48,8 +49,8 @@ plan_done {room} tally gives items text old new r x e a =
     subst (λ (q : Result (Unit {0}) Stop). Answers tally (IsTally room gives) 1 items text old new q) e a in
     (answered_done tally old new (text items) b.out, b.notes)
 
-pub plan_stopped : {room : ℕ} (tally : Bool) (gives : ℕ → Value → Value → Truth) (items : List Item) (text : List Item → List ℕ)
-    (old new : Outputs) (r : Result (Unit {0}) Stop) (y : Stop) → r ≡ Err y → Answers tally (IsTally room gives) 1 items text old new r
+pub plan_stopped : {room : ℕ} {O N : Type 0} (tally : Bool) (gives : ℕ → Value → Value → Truth) (items : List Item) (text : List Item → List ℕ)
+    (old new : Outputs O N) (r : Result (Unit {0}) Stop) (y : Stop) → r ≡ Err y → Answers tally (IsTally room gives) 1 items text old new r
     → AnsweredBy tally old new (text items) (end_at y)
     × Tallied tally (IsTally room gives) 1 items text old new (stop_of (end_at y))
 plan_stopped {room} tally gives items text old new r y e a =
@@ -66,33 +67,33 @@ plan_stopped {room} tally gives items text old new r y e a =
     by stop.Memory b = (answered_memory tally old new (text items) b.out, b.notes)
 
 -- the lines of a plan that was run
-pub lines_answered : (p : Predicates) (words : List (List ℕ)) (a : Request) (plan : Plan) (old new : Folder) (before now : Outputs) (e : End)
-    → asked words ≡ Some a → Went old new (λ files. IsRequested p a files (Ok plan))
+pub lines_answered : {O N : Type 0} (p : Predicates) (words : List (List ℕ)) (a : Request) (plan : Plan) (old new : Folder) (before now : Outputs O N) (e : End)
+    → asked words ≡ Some a → (w : Went old new (IsGivenFor a.task) (λ given. IsRequested p a given (Ok plan)))
     → Tallied a.settings.tally (IsTally a.settings.cache p.gives) 1 (items_of plan) (task_text a.task p.gives) before now (stop_of e)
-    → NotedLines p words old.holds before now e
+    → NotedLines p words w.given before now e
 lines_answered p words a plan old new before now e is w h =
     record { end' = by (stop_of e) h.end'; quiet = λ q. h.quiet (sym tally ∙ q) }
   where
     tally : is_tallied words ≡ a.settings.tally
     tally = rw is refl
 
-    of : RunOf p words old.holds
+    of : RunOf p words w.given
     of = record {
       request = a;
       in_form = is;
       items = items_of plan;
-      due = λ files told. (due_by (Ok plan), outcome_planned p words files a plan is (w.tells files told), inr refl, refl);
+      due = (due_by (Ok plan), outcome_planned p words w.given a plan is w.tells, inr refl, refl);
     }
 
     text : List Item → List ℕ
     text = task_text a.task p.gives
 
-    progress : LinesPut text h.finished h.left h.lines before now → Progress p words old.holds before.out now.out h.lines
+    progress : LinesPut text h.finished h.left h.lines before now → Progress p words w.given before.out now.out h.lines
     progress k = record { of = of; finished = h.finished; left = h.left; split = h.split; are = h.are; took = k.took }
 
     by : (r : Result (Unit {0}) Stop)
         → EndsSo a.settings.tally (IsTally a.settings.cache p.gives) 1 text h.finished h.left h.lines before now r
-        → LinedBy p words old.holds before now r
+        → LinedBy p words w.given before now r
     by (Ok x) k = (h.lines, (progress k.0, k.1), k.0.put, k.2)
     by (Err stop.Notes) k = record {
       of = of;
@@ -101,6 +102,7 @@ lines_answered p words a plan old new before now e is w h =
       left = k.0.rest;
       split = h.split ∙ ap (λ (l : List Item). h.finished ++ l) k.0.is;
       text = k.0.whole;
+      kept = k.0.kept;
       lines = h.lines;
       are = h.are;
       line = k.0.line;
@@ -113,15 +115,16 @@ lines_answered p words a plan old new before now e is w h =
     by (Err stop.Memory) k = (h.lines, inr (progress k), k.put, k.counts)
 
 -- no line was put, and the run isn't done
-pub lines_unput : (p : Predicates) (words : List (List ℕ)) (holds : Option (List File)) (told : Type 0) (before : Outputs) (s : Status) → IsEarly told s
-    → NotedLines p words holds before before (end.By s)
-lines_unput p words holds told before s early = record { end' = by (stage_of s) refl; quiet = λ q. refl }
+pub lines_unput : {O N : Type 0} {tables accesses : ℕ} (p : Predicates) (words : List (List ℕ)) (given : Given) (told : Type 0) (before : Outputs O N) (s : Status)
+    → IsEarly tables accesses told s
+    → NotedLines p words given before before (end.By s)
+lines_unput p words given told before s early = record { end' = by (stage_of s) refl; quiet = λ q. refl }
   where
-    none : (lines : List ℕ) × SomeLines p words holds before.out before.out lines × Adds before.notes.written before.notes.written lines
+    none : (lines : List ℕ) × SomeLines p words given before.out before.out lines × Adds before.notes.written before.notes.written lines
         × NeverFalls before.notes.faults before.notes.faults
     none = ([], inl (refl, refl), Adds-nothing before.notes.written, omega arith)
 
-    by : (st : Stage) → stage_of s ≡ st → LinedBy p words holds before before (stop_at st)
+    by : (st : Stage) → stage_of s ≡ st → LinedBy p words given before before (stop_at st)
     by stage.Run e = absurd (early_not_done told s early (Done-only s e))
     by _ e = none
 
@@ -132,21 +135,15 @@ by_either P s ended (inl e) h k = subst P (sym e) h
 by_either P s ended (inr e) h k = subst P (sym e) k
 
 -- lines that were put, whether or not the run was done
-lines_any : (p : Predicates) (words : List (List ℕ)) (holds : Option (List File)) (before now : Outputs) (st : Stage)
-    → LinedBy p words holds before now (stop_at st)
-    → (lines : List ℕ) × SomeLines p words holds before.out now.out lines × Adds before.notes.written now.notes.written lines
+lines_any : {O N : Type 0} (p : Predicates) (words : List (List ℕ)) (given : Given) (before now : Outputs O N) (st : Stage)
+    → LinedBy p words given before now (stop_at st)
+    → (lines : List ℕ) × SomeLines p words given before.out now.out lines × Adds before.notes.written now.notes.written lines
     × NeverFalls before.notes.faults now.notes.faults
-lines_any p words holds before now stage.Run k = (k.0, inr k.1.0, k.2, omega (arith, k.3))
-lines_any p words holds before now _ k = k
-
--- a sink that shows what another one does
-same_sink : (old new : Sink) → new.written ≡ old.written → new.faults ≡ old.faults → new ≡ old
-same_sink old new e f =
-    subst (λ (w : Option (List ℕ)). sink_seen w new.faults ≡ old) (sym e)
-    (subst (λ (n : ℕ). sink_seen old.written n ≡ old) (sym f) refl)
+lines_any p words given before now stage.Run k = (k.0, inr k.1.0, k.2, omega (arith, k.3))
+lines_any p words given before now _ k = k
 
 -- a note behind lines
-noted_behind : (old mid new : Sink) (lines line : List ℕ) → Adds old.written mid.written lines → NeverFalls old.faults mid.faults
+noted_behind : {S : Type 0} (old mid new : Sink S) (lines line : List ℕ) → Adds old.written mid.written lines → NeverFalls old.faults mid.faults
     → IsNoted mid new line → IsNotedBehind old new lines line
 noted_behind old mid new lines line put counts (inl h) = inl (Adds-twice old.written mid.written new.written lines line put h)
 noted_behind old mid new lines line put counts (inr h) = inr (
@@ -155,21 +152,23 @@ noted_behind old mid new lines line put counts (inr h) = inr (
 )
 
 -- the world where just the notes are others
-abbrev with_notes : World → Sink → World
+abbrev with_notes : {O N : Type 0} → World O N → Sink N → World O N
 with_notes w notes = record w { outputs = record w.outputs { notes = notes } }
 
 -- a run of what the words ask for, and its line
-finished_noted : (p : Predicates) (words : List (List ℕ)) (a : Request) (old new : World) (said : Sink) (s ended : Status)
-    → asked words ≡ Some a → EndedBy p words old new (end.By s) → NotedLines p words old.folder.holds old.outputs new.outputs (end.By s)
+finished_noted : {O N : Type 0} (p : Predicates) (words : List (List ℕ)) (a : Request) (given : Given) (old new : World O N) (said : Sink N) (s ended : Status)
+    → asked words ≡ Some a → IsGivenTo words old.folder.holds given → EndedBy p words given old new (end.By s) → NotedLines p words given old.outputs new.outputs (end.By s)
     → NotesOf (names_of (tables_in a.task)) new.outputs.notes said s ended → Finished p words old (with_notes new said) ended
-finished_noted p words a old new said s ended is h l n = record {
+finished_noted p words a given old new said s ended is to h l n = record {
+  given = given;
+  is_given = to;
   ended = done_so;
   usage = λ none. absurd (never (sym none ∙ is));
   tallied = λ e.
       let k = on_done e l.end' in
-      (k.0, k.1, subst (λ (x : Option (List ℕ)). Adds old.outputs.notes.written x k.0) (sym (n.silent e)) k.2);
-  kept = λ e. n.silent_count e ∙ (on_done e l.end').3;
-  silent = λ e q. same_sink new.outputs.notes said (n.silent e) (n.silent_count e) ∙ l.quiet q;
+      (k.0, k.1, subst (λ (x : Option (List ℕ)). Adds old.outputs.notes.written x k.0) (sym (same_written new.outputs.notes said (n.silent e))) k.2);
+  kept = λ e. same_faults new.outputs.notes said (n.silent e) ∙ (on_done e l.end').3;
+  silent = λ e q. n.silent e ∙ l.quiet q;
   noted_lines = λ other. inl (
     put.0,
     put.1,
@@ -177,19 +176,19 @@ finished_noted p words a old new said s ended is h l n = record {
         (noted_behind old.outputs.notes new.outputs.notes said put.0 (line_of (names_of (tables_in a.task)) ended) put.2 put.3 (n.noted other)),
   );
   cut = λ e calm. absurd (calm (h.write (written e n.either)));
-  refused = refused_of p words old (with_notes new said) (MayFail words old.outputs (with_notes new said).outputs) ended done_so;
+  refused = refused_of p words given old (with_notes new said) (MayFail words old.outputs (with_notes new said).outputs) ended done_so;
 }
   where
     rose : Type 0
     rose = RoseOrFull old.outputs.out.faults new.outputs.out.faults
 
-    done_so : Ended p words old (with_notes new said) (MayFail words old.outputs (with_notes new said).outputs) ended
-    done_so = ended_by_other p words old new said rose (MayFail words old.outputs (with_notes new said).outputs) ended (λ r. inl r)
-        (by_either (λ (t : Status). Ended p words old new rose t) s ended n.either h (ended_memory p words old new rose s h))
+    done_so : Ended p words given old (with_notes new said) (MayFail words old.outputs (with_notes new said).outputs) ended
+    done_so = ended_by_other p words given old new said rose (MayFail words old.outputs (with_notes new said).outputs) ended (λ r. inl r)
+        (by_either (λ (t : Status). Ended p words given old new rose t) s ended n.either h (ended_memory p words given old new rose s h))
 
-    put : (lines : List ℕ) × SomeLines p words old.folder.holds old.outputs.out new.outputs.out lines
+    put : (lines : List ℕ) × SomeLines p words given old.outputs.out new.outputs.out lines
         × Adds old.outputs.notes.written new.outputs.notes.written lines × NeverFalls old.outputs.notes.faults new.outputs.notes.faults
-    put = lines_any p words old.folder.holds old.outputs new.outputs (stage_of s) l.end'
+    put = lines_any p words given old.outputs new.outputs (stage_of s) l.end'
 
     never : ◌≡◌ {A = Option Request} None (Some a) → ⊥
     never f = cc
@@ -205,15 +204,17 @@ finished_noted p words a old new said s ended is h l n = record {
     written e (inl f) = sym f ∙ e
     written e (inr f) = let wrong : status.Memory ≡ status.Write = sym f ∙ e in absurd cc
 
-    on_done : ended ≡ status.Done → LinedBy p words old.folder.holds old.outputs new.outputs (stop_at (stage_of s))
-        → LinedBy p words old.folder.holds old.outputs new.outputs (Ok tt)
-    on_done e k = subst (λ (t : Status). LinedBy p words old.folder.holds old.outputs new.outputs (stop_at (stage_of t))) (done ended e n.either) k
+    on_done : ended ≡ status.Done → LinedBy p words given old.outputs new.outputs (stop_at (stage_of s))
+        → LinedBy p words given old.outputs new.outputs (Ok tt)
+    on_done e k = subst (λ (t : Status). LinedBy p words given old.outputs new.outputs (stop_at (stage_of t))) (done ended e n.either) k
 
 -- a run that the notes stopped at a line of counts: nothing more is put to them
-finished_cut : (p : Predicates) (words : List (List ℕ)) (a : Request) (old new : World) → asked words ≡ Some a
-    → EndedBy p words old new end.ByNotes → NotedLines p words old.folder.holds old.outputs new.outputs end.ByNotes
+finished_cut : {O N : Type 0} (p : Predicates) (words : List (List ℕ)) (a : Request) (given : Given) (old new : World O N) → asked words ≡ Some a
+    → IsGivenTo words old.folder.holds given → EndedBy p words given old new end.ByNotes → NotedLines p words given old.outputs new.outputs end.ByNotes
     → Finished p words old new status.Write
-finished_cut p words a old new is h l = record {
+finished_cut p words a given old new is to h l = record {
+  given = given;
+  is_given = to;
   ended = done_so;
   usage = λ none. absurd (never (sym none ∙ is));
   tallied = λ e. absurd cc;
@@ -221,11 +222,11 @@ finished_cut p words a old new is h l = record {
   silent = λ e. absurd cc;
   noted_lines = λ other. inr (refl, l.end');
   cut = λ e calm. l.end';
-  refused = refused_of p words old new (MayFail words old.outputs new.outputs) status.Write done_so;
+  refused = refused_of p words given old new (MayFail words old.outputs new.outputs) status.Write done_so;
 }
   where
-    done_so : Ended p words old new (MayFail words old.outputs new.outputs) status.Write
-    done_so = ended_by_other p words old new new.outputs.notes
+    done_so : Ended p words given old new (MayFail words old.outputs new.outputs) status.Write
+    done_so = ended_by_other p words given old new new.outputs.notes
         ((is_tallied words ≡ true) × RoseOrFull old.outputs.notes.faults new.outputs.notes.faults)
         (MayFail words old.outputs new.outputs) status.Write (λ k. inr k) h
 
@@ -233,33 +234,32 @@ finished_cut p words a old new is h l = record {
     never f = cc
 
 -- the world whose notes are exchanged for those of one that shows the same else
-abbrev world_of : Folder → Sink → Sink → World
+abbrev world_of : {O N : Type 0} → Folder → Sink O → Sink N → World O N
 world_of folder out notes = record { folder = folder; outputs = record { out = out; notes = notes } }
 
-same_world : (mid new : World) → new.folder ≡ mid.folder → new.outputs.out ≡ mid.outputs.out → with_notes mid new.outputs.notes ≡ new
-same_world mid new e f =
+same_world : {O N : Type 0} (mid new : World O N) → new.folder ≡ mid.folder → new.outputs.out ≡ mid.outputs.out → with_notes mid new.outputs.notes ≡ new
+same_world {O} {N} mid new e f =
     subst (λ (x : Folder). world_of x mid.outputs.out new.outputs.notes ≡ new) e
-    (subst (λ (x : Sink). world_of new.folder x new.outputs.notes ≡ new) f refl)
+    (subst (λ (x : Sink O). world_of new.folder x new.outputs.notes ≡ new) f refl)
 
 -- the same by an equal end, and of an equal world
-pub finished_by : (p : Predicates) (words : List (List ℕ)) (a : Request) (old mid new : World) (e : End) (s ended : Status)
-    (tables : List TableWord) → e ≡ end.By s → asked words ≡ Some a → EndedBy p words old mid e
-    → NotedLines p words old.folder.holds old.outputs mid.outputs e → tables ≡ tables_in a.task
+pub finished_by : {O N : Type 0} (p : Predicates) (words : List (List ℕ)) (a : Request) (old mid new : World O N) (e : End) (s ended : Status)
+    (tables : List TableWord) → e ≡ end.By s → asked words ≡ Some a → Ran p words old mid e → tables ≡ tables_in a.task
     → new.folder ≡ mid.folder → new.outputs.out ≡ mid.outputs.out
     → NotesOf (names_of tables) mid.outputs.notes new.outputs.notes s ended
     → Finished p words old new ended
-finished_by p words a old mid new e s ended tables f is h l same place out n =
-    subst (λ (w : World). Finished p words old w ended) (same_world mid new place out)
-    (finished_noted p words a old mid new.outputs.notes s ended is (subst (λ (x : End). EndedBy p words old mid x) f h)
-    (subst (λ (x : End). NotedLines p words old.folder.holds old.outputs mid.outputs x) f l)
+finished_by {O} {N} p words a old mid new e s ended tables f is ran same place out n =
+    subst (λ (w : World O N). Finished p words old w ended) (same_world mid new place out)
+    (finished_noted p words a ran.given old mid new.outputs.notes s ended is ran.is_given
+    (subst (λ (x : End). EndedBy p words ran.given old mid x) f ran.ended)
+    (subst (λ (x : End). NotedLines p words ran.given old.outputs mid.outputs x) f ran.lines)
     (subst (λ (ts : List TableWord). NotesOf (names_of ts) mid.outputs.notes new.outputs.notes s ended) same n))
 
-pub finished_by_notes : (p : Predicates) (words : List (List ℕ)) (a : Request) (old new : World) (e : End)
-    → e ≡ end.ByNotes → asked words ≡ Some a → EndedBy p words old new e → NotedLines p words old.folder.holds old.outputs new.outputs e
-    → Finished p words old new status.Write
-finished_by_notes p words a old new e f is h l =
-    finished_cut p words a old new is (subst (λ (x : End). EndedBy p words old new x) f h)
-    (subst (λ (x : End). NotedLines p words old.folder.holds old.outputs new.outputs x) f l)
+pub finished_by_notes : {O N : Type 0} (p : Predicates) (words : List (List ℕ)) (a : Request) (old new : World O N) (e : End)
+    → e ≡ end.ByNotes → asked words ≡ Some a → Ran p words old new e → Finished p words old new status.Write
+finished_by_notes p words a old new e f is ran =
+    finished_cut p words a ran.given old new is ran.is_given (subst (λ (x : End). EndedBy p words ran.given old new x) f ran.ended)
+    (subst (λ (x : End). NotedLines p words ran.given old.outputs new.outputs x) f ran.lines)
 
 -- words out of form, or want of memory for them, and its line
 same_line : (names : List (List ℕ)) (s : Status) → (s ≡ status.Usage) ⊎ (s ≡ status.Memory) → line_of [] s ≡ line_of names s
@@ -267,10 +267,12 @@ unfolding line_of
 same_line names s (inl e) = rw e refl
 same_line names s (inr e) = rw e refl
 
-usage_noted : (p : Predicates) (words : List (List ℕ)) (old : World) (said : Sink) (s ended : Status)
+usage_noted : {O N : Type 0} (p : Predicates) (words : List (List ℕ)) (old : World O N) (said : Sink N) (s ended : Status)
     → (s ≡ status.Memory) ⊎ ((s ≡ status.Usage) × (asked words ≡ None)) → NotesOf [] old.outputs.notes said s ended
     → Finished p words old (with_notes old said) ended
 usage_noted p words old said s ended why n = record {
+  given = given;
+  is_given = some.1;
   ended = ends why;
   usage = λ none. which why;
   tallied = λ e. absurd (not_done e (which why));
@@ -282,22 +284,28 @@ usage_noted p words old said s ended why n = record {
     subst (λ (line : List ℕ). IsNoted old.outputs.notes said line) (same_line (names_asked words) ended (which why)) (n.noted other),
   );
   cut = λ e calm. absurd (not_write e (which why));
-  refused = refused_of p words old (with_notes old said) fault ended (ends why);
+  refused = refused_of p words given old (with_notes old said) fault ended (ends why);
 }
   where
+    some : (g : Given) × IsGivenTo words old.folder.holds g
+    some = some_given words old.folder.holds
+
+    given : Given
+    given = some.0
+
     fault : Type 0
     fault = MayFail words old.outputs (with_notes old said).outputs
 
-    early : Ended p words old old fault status.Memory
-    early = ended_early p words old fault
+    early : Ended p words given old old fault status.Memory
+    early = ended_early p words given old fault
 
-    ends : (s ≡ status.Memory) ⊎ ((s ≡ status.Usage) × (asked words ≡ None)) → Ended p words old (with_notes old said) fault ended
-    ends (inl e) = ended_by_other p words old old said fault fault ended (λ k. k)
-        (by_either (λ (t : Status). Ended p words old old fault t) s ended n.either
-        (subst (λ (t : Status). Ended p words old old fault t) (sym e) early) early)
-    ends (inr h) = ended_by_other p words old old said fault fault ended (λ k. k)
-        (by_either (λ (t : Status). Ended p words old old fault t) s ended n.either
-        (subst (λ (t : Status). Ended p words old old fault t) (sym h.0) (ended_usage p words old fault h.1)) early)
+    ends : (s ≡ status.Memory) ⊎ ((s ≡ status.Usage) × (asked words ≡ None)) → Ended p words given old (with_notes old said) fault ended
+    ends (inl e) = ended_by_other p words given old old said fault fault ended (λ k. k)
+        (by_either (λ (t : Status). Ended p words given old old fault t) s ended n.either
+        (subst (λ (t : Status). Ended p words given old old fault t) (sym e) early) early)
+    ends (inr h) = ended_by_other p words given old old said fault fault ended (λ k. k)
+        (by_either (λ (t : Status). Ended p words given old old fault t) s ended n.either
+        (subst (λ (t : Status). Ended p words given old old fault t) (sym h.0) (ended_usage p words given old fault h.1)) early)
 
     which : (s ≡ status.Memory) ⊎ ((s ≡ status.Usage) × (asked words ≡ None)) → (ended ≡ status.Usage) ⊎ (ended ≡ status.Memory)
     which (inl e) = elim n.either [ inl f ↦ inr (f ∙ e) | inr f ↦ inr f ]
@@ -311,10 +319,19 @@ usage_noted p words old said s ended why n = record {
     not_write e (inl f) = let wrong : status.Usage ≡ status.Write = sym f ∙ e in cc
     not_write e (inr f) = let wrong : status.Memory ≡ status.Write = sym f ∙ e in cc
 
-pub finished_usage : (p : Predicates) (words : List (List ℕ)) (folder : Folder) (old new : Outputs) (s ended : Status)
+pub finished_usage : {O N : Type 0} (p : Predicates) (words : List (List ℕ)) (folder : Folder) (old new : Outputs O N) (s ended : Status)
     → (s ≡ status.Memory) ⊎ ((s ≡ status.Usage) × (asked words ≡ None)) → new.out ≡ old.out → NotesOf [] old.notes new.notes s ended
     → Finished p words (record { folder = folder; outputs = old }) (record { folder = folder; outputs = new }) ended
-finished_usage p words folder old new s ended why same n =
-    let was : World = record { folder = folder; outputs = old } in
-    subst (λ (out : Sink). Finished p words was (record { folder = folder; outputs = record { out = out; notes = new.notes } }) ended) (sym same)
+finished_usage {O} {N} p words folder old new s ended why same n =
+    let was : World O N = record { folder = folder; outputs = old } in
+    subst (λ (out : Sink O). Finished p words was (record { folder = folder; outputs = record { out = out; notes = new.notes } }) ended) (sym same)
     (usage_noted p words was new.notes s ended why n)
+
+-- ---- before anything was put
+
+pub same_out : {O N : Type 0} (old new : Outputs O N) → new ≡ old → new.out ≡ old.out
+same_out {O} {N} old new same = ap (λ (o : Outputs O N). o.out) same
+
+pub same_notes : {O N : Type 0} (old mid : Outputs O N) (said : Sink N) (s ended : Status) → mid ≡ old
+    → NotesOf [] mid.notes said s ended → NotesOf [] old.notes said s ended
+same_notes {O} {N} old mid said s ended same n = subst (λ (o : Outputs O N). NotesOf [] o.notes said s ended) same n

@@ -1,5 +1,5 @@
 -- How a run may end, by the stage and the phase of its status.
-use Rattle.std.proofs.Common.{◌≡◌, List, Option, Some, None, refl, sym, ◌∙◌, ap, subst, ◌⊎◌, inl, inr}
+use Rattle.std.proofs.Common.{◌≡◌, ℕ, List, Option, Some, None, refl, sym, ◌∙◌, ap, subst, ◌⊎◌, inl, inr}
 use Rattle.std.specs.Prelude.{MatchOption, unwrap_or}
 use Rattle.run_plan.specs.Stage.{Phase, Before, Writing, AnyTime, phase_of, phase_of_file, stage_of, file_unread}
 use Rattle.run_plan.specs.Refusal.{RefusesIn, MayRefuse, IsBetween, IsEarly}
@@ -57,8 +57,8 @@ early_at (status.Read g) writes P IsDue i f h = f (refused_file g P h)
 early_at (status.Limit l) writes P IsDue i f h = early_limit l writes P IsDue f h
 early_at _ writes P IsDue i f h = f h
 
-pub MayEnd-early : (reads others : FileOf → Type 0) (writes told P : Type 0) (IsDue : Due → Type 0) (s : Status)
-    → IsEarly told s → (P → IsRefused IsDue s) → ((f : FileOf) → reads f → others f) → MayRefuse reads P s → MayEnd others writes IsDue s
+pub MayEnd-early : {tables accesses : ℕ} (reads others : FileOf → Type 0) (writes told P : Type 0) (IsDue : Due → Type 0) (s : Status)
+    → IsEarly tables accesses told s → (P → IsRefused IsDue s) → ((f : FileOf) → reads f → others f) → MayRefuse reads P s → MayEnd others writes IsDue s
 MayEnd-early reads others writes told P IsDue s early f weaker h = by (file_unread s) h
   where
     by : (o : Option FileOf) → MatchOption o (RefusesIn (phase_of s) P) reads → MatchOption o (EndsAt (stage_of s) writes IsDue s) others

@@ -11,8 +11,8 @@ use Rattle.run_answers.specs.declared.stopping.Stop.{Stop}
 use Rattle.eddyql.specs.Outcome.{task_text}
 
 -- the texts of what the words ask for, of equal tasks and of equal statements
-pub answers_task : {room : ℕ} (tally : Bool) (gives : ℕ → Value → Value → Truth) (items same : List Item) (asked other : Task)
-    (old new : Outputs) (r : Result (Unit {0}) Stop) → asked ≡ other → items ≡ same
+pub answers_task : {room : ℕ} {O N : Type 0} (tally : Bool) (gives : ℕ → Value → Value → Truth) (items same : List Item) (asked other : Task)
+    (old new : Outputs O N) (r : Result (Unit {0}) Stop) → asked ≡ other → items ≡ same
     → Answers tally (IsTally room gives) 1 items (task_text other gives) old new r
     → Answers tally (IsTally room gives) 1 same (task_text asked gives) old new r
 answers_task {room} tally gives items same asked other old new r e f a =

@@ -1,10 +1,10 @@
 -- The lines of counts of a run, and how far it came: which statements are finished, by what was written of their text.
 use Rattle.std.specs.Prelude.{◌≡◌, ◌⊎◌, ℕ, ◌+◌, true, List, [], ◌∷◌, ◌++◌, length, Option, Some}
 use Rattle.outside.specs.Faults.{RoseOrFull}
-use Rattle.outside.specs.Files.{File}
 use Rattle.outside.specs.Told.{Adds}
 use Rattle.run_base.specs.Items.{Item}
 use Rattle.run_base.specs.Seen.{Sink, Outputs}
+use Rattle.run_plan.specs.Given.{Given}
 use Rattle.run_plan.specs.Prepared.{Predicates}
 use Rattle.run_answers.specs.Lines.{AreLines}
 use Rattle.run_answers.specs.Tally.{IsTally}
@@ -14,31 +14,31 @@ use Rattle.eddyql.specs.Outcome.{Due, IsOutcome, IsTextDue, task_text}
 use Rattle.eddyql.specs.declared.asking.Request.{Request}
 
 -- these statements are what is due, and a text is
-abbrev pub AreDue : Predicates → List (List ℕ) → List File → List Item → Type 0
-AreDue p words files items = (due : Due) × IsOutcome p words files due × IsTextDue due × (due.items ≡ items)
+abbrev pub AreDue : Predicates → List (List ℕ) → Given → List Item → Type 0
+AreDue p words given items = (due : Due) × IsOutcome p words given due × IsTextDue due × (due.items ≡ items)
 
--- what is run: what the words ask for, and the statements that are due over the folder's files, where it tells them
-pub record RunOf (p : Predicates) (words : List (List ℕ)) (holds : Option (List File)) : Type 0 where
+-- what is run: what the words ask for, and the statements that are due over what is given
+pub record RunOf (p : Predicates) (words : List (List ℕ)) (given : Given) : Type 0 where
   pub request : Request
   pub in_form : asked words ≡ Some request
   pub items : List Item
-  pub due : (files : List File) → holds ≡ Some files → AreDue p words files items
+  pub due : AreDue p words given items
 
 -- the text of its first statements
-abbrev pub text_in : {p : Predicates} {words : List (List ℕ)} {holds : Option (List File)} → RunOf p words holds
+abbrev pub text_in : {p : Predicates} {words : List (List ℕ)} {given : Given} → RunOf p words given
     → List Item → List ℕ
 text_in {p = p} r = task_text r.request.task p.gives
 
 -- the lines of its first statements, which are none where none are asked for
-abbrev pub AreLinesIn : {p : Predicates} {words : List (List ℕ)} {holds : Option (List File)} → RunOf p words holds
+abbrev pub AreLinesIn : {p : Predicates} {words : List (List ℕ)} {given : Given} → RunOf p words given
     → List Item → List ℕ → Type 0
 AreLinesIn {p = p} r items lines =
     AreLines r.request.settings.tally (IsTally r.request.settings.cache p.gives) 1 items lines
 
 -- a run came so far: the first of its statements are finished, by what the output took, and these are their lines
-pub record Progress (p : Predicates) (words : List (List ℕ)) (holds : Option (List File)) (before now : Sink)
+pub record Progress {S : Type 0} (p : Predicates) (words : List (List ℕ)) (given : Given) (before now : Sink S)
     (lines : List ℕ) : Type 0 where
-  pub of : RunOf p words holds
+  pub of : RunOf p words given
   pub finished : List Item
   pub left : List Item
   pub split : of.items ≡ finished ++ left
@@ -46,24 +46,25 @@ pub record Progress (p : Predicates) (words : List (List ℕ)) (holds : Option (
   pub took : TookSoFar (text_in of) finished left before now
 
 -- the lines of all statements of a run
-abbrev pub AllLines : Predicates → List (List ℕ) → Option (List File) → Sink → Sink → List ℕ → Type 0
-AllLines p words holds before now lines = (g : Progress p words holds before now lines) × (g.left ≡ [])
+abbrev pub AllLines : {S : Type 0} → Predicates → List (List ℕ) → Given → Sink S → Sink S → List ℕ → Type 0
+AllLines p words given before now lines = (g : Progress p words given before now lines) × (g.left ≡ [])
 
 -- the lines of the finished statements; or none, where nothing was put to the output
-abbrev pub SomeLines : Predicates → List (List ℕ) → Option (List File) → Sink → Sink → List ℕ → Type 0
-SomeLines p words holds before now lines =
-    ((lines ≡ []) × (now ≡ before)) ⊎ Progress p words holds before now lines
+abbrev pub SomeLines : {S : Type 0} → Predicates → List (List ℕ) → Given → Sink S → Sink S → List ℕ → Type 0
+SomeLines p words given before now lines =
+    ((lines ≡ []) × (now ≡ before)) ⊎ Progress p words given before now lines
 
 -- the notes failed at a line of counts: the output took the text of its statement and of those before, and nothing
 -- else; and the notes took the lines of those before, and a front of this line
-pub record IsCutOff (p : Predicates) (words : List (List ℕ)) (holds : Option (List File)) (old new : Outputs)
+pub record IsCutOff {O N : Type 0} (p : Predicates) (words : List (List ℕ)) (given : Given) (old new : Outputs O N)
     : Type 0 where
-  pub of : RunOf p words holds
+  pub of : RunOf p words given
   pub finished : List Item
   pub next : Item
   pub left : List Item
   pub split : of.items ≡ finished ++ next ∷ left
   pub text : Adds old.out.written new.out.written (text_in of (finished ++ next ∷ []))
+  pub kept : new.out.faults ≡ old.out.faults
   pub lines : List ℕ
   pub are : AreLinesIn of finished lines
   pub line : List ℕ
@@ -73,13 +74,13 @@ pub record IsCutOff (p : Predicates) (words : List (List ℕ)) (holds : Option (
   pub rose : RoseOrFull old.notes.faults new.notes.faults
 
 -- a sink has lines more, and behind them a line, or a front of it where its count rose
-abbrev pub IsNotedBehind : Sink → Sink → List ℕ → List ℕ → Type 0
+abbrev pub IsNotedBehind : {S : Type 0} → Sink S → Sink S → List ℕ → List ℕ → Type 0
 IsNotedBehind before now lines line =
     Adds before.written now.written (lines ++ line)
     ⊎ (RoseOrFull before.faults now.faults × AddsFrontBehind before.written now.written lines line)
 
 -- what may end a run as Write: a fault of the output, or, where the words ask for lines of counts, of the notes
-abbrev pub MayFail : List (List ℕ) → Outputs → Outputs → Type 0
+abbrev pub MayFail : {O N : Type 0} → List (List ℕ) → Outputs O N → Outputs O N → Type 0
 MayFail words old new =
     RoseOrFull old.out.faults new.out.faults
     ⊎ ((is_tallied words ≡ true) × RoseOrFull old.notes.faults new.notes.faults)

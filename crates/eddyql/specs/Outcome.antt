@@ -1,6 +1,6 @@
--- What a run must answer: the outcome of words over files is the statements that are answered, each with its tables,
--- and the first refusal, where there is one.
-use Rattle.std.specs.Prelude.{◌≡◌, ◌≢◌, ◌⊎◌, ℕ, List, [], Option, None, Some, unwrap_or, Result, Ok, Err}
+-- What a run must answer: the outcome of words over what is given of their files is the statements that are answered,
+-- each with its tables, and the first refusal, where there is one.
+use Rattle.std.specs.Prelude.{◌≡◌, ◌≢◌, ◌⊎◌, ℕ, List, [], Option, None, Some, unwrap_or, Result, Ok, Err, ⊤}
 use Rattle.std.specs.Option.{option_map_or}
 use Rattle.sq_value.specs.declared.value.Value.{Value}
 use Rattle.sq_value.specs.declared.value.Truth.{Truth}
@@ -9,6 +9,7 @@ use Rattle.command_line.specs.declared.command.Query.{Query}
 use Rattle.command_line.specs.declared.command.Task.{Task}
 use Rattle.command_line.specs.declared.command.Task.TheVariants as task
 use Rattle.run_base.specs.Items.{Item, items_over}
+use Rattle.run_plan.specs.Given.{Given, IsGiven}
 use Rattle.run_plan.specs.Steps.{AndThen, ComesTo, or_refuse}
 use Rattle.run_plan.specs.declared.plan.Plan.{Plan}
 use Rattle.run_plan.specs.declared.status.Status.{Status}
@@ -29,19 +30,32 @@ pub record Due : Type 0 where
 abbrev pub status_of : Due → Status
 status_of due = unwrap_or due.refusal status.Done
 
+-- what is given for a task is what a folder holds of its files, where it tells that; the demo has none
+abbrev pub IsGivenFor : Task → Option (List File) → Given → Type 0
+IsGivenFor (task.Query q) holds given = IsGiven q holds given
+IsGivenFor (task.Demo rows) holds given = ⊤
+
+-- the same of what words ask for
+abbrev pub IsGivenTo : List (List ℕ) → Option (List File) → Given → Type 0
+IsGivenTo words holds given = (a : Request) → asked words ≡ Some a → IsGivenFor a.task holds given
+
+-- this holds of what is given to words by a folder
+abbrev pub OverGiven : List (List ℕ) → Option (List File) → (Given → Type 0) → Type 0
+OverGiven words holds P = (given : Given) × IsGivenTo words holds given × P given
+
 -- the plan of a script over tables, or of the demo with this seed
-abbrev pub IsTaskPlan : Predicates → Task → ℕ → List File → Result Plan Status → Type 0
-IsTaskPlan p (task.Query q) seed files due = IsPlan p q files due
-IsTaskPlan p (task.Demo rows) seed files due = IsDemoPlan p rows seed due
+abbrev pub IsTaskPlan : Predicates → Task → ℕ → Given → Result Plan Status → Type 0
+IsTaskPlan p (task.Query q) seed given due = IsPlan p q given due
+IsTaskPlan p (task.Demo rows) seed given due = IsDemoPlan p rows seed due
 
 -- the plan of what words ask for
-abbrev pub IsRequested : Predicates → Request → List File → Result Plan Status → Type 0
-IsRequested p a files due = IsTaskPlan p a.task a.settings.seed files due
+abbrev pub IsRequested : Predicates → Request → Given → Result Plan Status → Type 0
+IsRequested p a given due = IsTaskPlan p a.task a.settings.seed given due
 
 -- the plan of words, or the first refusal before any statement is answered
-abbrev pub IsPlanned : Predicates → List (List ℕ) → List File → Result Plan Status → Type 0
-IsPlanned p words files due =
-    AndThen (ComesTo (or_refuse status.Usage (asked words))) (λ a. IsRequested p a files) due
+abbrev pub IsPlanned : Predicates → List (List ℕ) → Given → Result Plan Status → Type 0
+IsPlanned p words given due =
+    AndThen (ComesTo (or_refuse status.Usage (asked words))) (λ a. IsRequested p a given) due
 
 -- the statements of a plan, each over the plan's tables
 abbrev pub items_of : Plan → List Item
@@ -52,9 +66,9 @@ abbrev pub due_by : Result Plan Status → Due
 due_by (Ok plan) = record { items = items_of plan; refusal = None }
 due_by (Err refusal) = record { items = []; refusal = Some refusal }
 
--- the outcome of words over files
-abbrev pub IsOutcome : Predicates → List (List ℕ) → List File → Due → Type 0
-IsOutcome p words files due = (plan : Result Plan Status) × IsPlanned p words files plan × (due ≡ due_by plan)
+-- the outcome of words over what is given
+abbrev pub IsOutcome : Predicates → List (List ℕ) → Given → Due → Type 0
+IsOutcome p words given due = (plan : Result Plan Status) × IsPlanned p words given plan × (due ≡ due_by plan)
 
 -- the text of what is run: the answers, or the demo's summary
 abbrev pub task_text : Task → (ℕ → Value → Value → Truth) → List Item → List ℕ
@@ -80,18 +94,18 @@ abbrev pub IsTextDue : Due → Type 0
 IsTextDue due = (due.items ≢ []) ⊎ (due.refusal ≡ None)
 
 -- the demo reaches no file
-abbrev pub ReachedFor : Task → List File → FileOf → Type 0
-ReachedFor (task.Query q) files f = Reached q files f
-ReachedFor (task.Demo rows) files f = ⊥
+abbrev pub ReachedFor : Task → Given → FileOf → Type 0
+ReachedFor (task.Query q) given f = Reached given f
+ReachedFor (task.Demo rows) given f = ⊥
 
 -- the same of words
-pub record ReachedBy (words : List (List ℕ)) (files : List File) (f : FileOf) : Type 0 where
-  pub given : Request
-  pub in_form : asked words ≡ Some given
-  pub reached : ReachedFor given.task files f
+pub record ReachedBy (words : List (List ℕ)) (given : Given) (f : FileOf) : Type 0 where
+  pub request : Request
+  pub in_form : asked words ≡ Some request
+  pub reached : ReachedFor request.task given f
 
--- the law that words over files have one outcome
+-- the law that words over what is given have one outcome
 abbrev pub OneOutcome : Type 0
-OneOutcome = (p : Predicates) (words : List (List ℕ)) (files : List File)
-    → (due : Due) × IsOutcome p words files due
-    × ((other : Due) → IsOutcome p words files other → other ≡ due)
+OneOutcome = (p : Predicates) (words : List (List ℕ)) (given : Given)
+    → (due : Due) × IsOutcome p words given due
+    × ((other : Due) → IsOutcome p words given other → other ≡ due)

@@ -1,11 +1,12 @@
 //! From what the words ask for to the plan of a run: that of a script over tables, or of the demo.
 
-ghost use Rattle.std.specs.Prelude.{Ok, Err, IfOk, IfErr, All};
+ghost use Rattle.std.specs.Prelude.{◌≡◌, true, Ok, Err, IfOk, IfErr, All, length};
 ghost use Rattle.command_line.specs.Within.{IsTask};
 ghost use Rattle.run_base.specs.Runnable.{IsRunnable};
 ghost use Rattle.run_base.specs.Seen.{folder_seen};
 ghost use Rattle.run_plan.specs.Doing.{Went, Stopped};
 ghost use Rattle.run_plan.specs.Prepared.{predicates};
+ghost use Rattle.eddyql.specs.Asked.{loads_none, tables_in, accesses_in};
 ghost use Rattle.eddyql.specs.Outcome as spec;
 
 use crate::asking::Request;
@@ -30,14 +31,17 @@ pub fn plan_for<F: Folder, P: Predicates>(
         IfOk result (λ plan.
         Went (folder_seen (F.holds folder.old) (F.faults folder.old))
         (folder_seen (F.holds folder.new) (F.faults folder.new))
-        (λ files. spec.IsRequested p request.now files (Ok plan))) }
+        (spec.IsGivenFor request.now.task) (λ given. spec.IsRequested p request.now given (Ok plan))) }
     ensures run { IfOk result (λ plan.
         All (IsRunnable (P.kinds_of functions.now) plan.catalogue.tables) plan.statements) }
     ensures stopped { let p = predicates (P.number_of functions.now) (P.kinds_of functions.now) P.gives in
         IfErr result (λ s.
-        Stopped (folder_seen (F.holds folder.old) (F.faults folder.old))
+        Stopped (length (tables_in request.now.task)) (length (accesses_in request.now.task))
+        (folder_seen (F.holds folder.old) (F.faults folder.old))
         (folder_seen (F.holds folder.new) (F.faults folder.new))
-        (λ files. spec.IsRequested p request.now files (Err s)) (spec.ReachedFor request.now.task) s) }
+        (spec.IsGivenFor request.now.task) (λ given. spec.IsRequested p request.now given (Err s))
+        (spec.ReachedFor request.now.task) s) }
+    ensures untouched { loads_none request.now.task ≡ true → folder.new ≡ folder.old }
 {
     match &request.task {
         Task::Query(query) => prepare(alloc, query, folder, functions),

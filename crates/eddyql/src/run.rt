@@ -1,14 +1,14 @@
 //! The top call: from words, files and an output to a status.
 
-ghost use Rattle.std.specs.Prelude.{◌≡◌, ◌≢◌, ◌⊎◌, ℕ, false, List, Some, None, IsSome, All, map};
+ghost use Rattle.std.specs.Prelude.{◌≡◌, ◌≢◌, ◌⊎◌, ℕ, true, false, List, Some, None, IsSome, All, map, length};
 ghost use Rattle.std.specs.String.{string_bytes};
-ghost use Rattle.outside.specs.Files.{File};
 ghost use Rattle.outside.specs.Faults.{NeverFalls, RoseOrFull};
 ghost use Rattle.outside.specs.Told.{Adds, AddsFront};
 ghost use Rattle.command_line.specs.Within.{IsTask};
 ghost use Rattle.run_base.specs.Runnable.{IsRunnable};
 ghost use Rattle.run_base.specs.Seen.{world_seen};
 ghost use Rattle.run_plan.specs.Faults.{IsPlaced};
+ghost use Rattle.run_plan.specs.Naming.{IsNamed};
 ghost use Rattle.run_plan.specs.Prepared.{predicates};
 ghost use Rattle.run_plan.specs.Refusal.{UnlessReadOrMemory};
 ghost use Rattle.run_plan.specs.declared.status.FileOf.{FileOf};
@@ -16,11 +16,11 @@ ghost use Rattle.run_notes.specs.Note.{NotesOf, line_of, names_of};
 ghost use Rattle.run_answers.specs.Answering.{Answers, Tallied};
 ghost use Rattle.run_answers.specs.Settings.{AreSettings};
 ghost use Rattle.run_answers.specs.Tally.{IsTally};
-ghost use Rattle.eddyql.specs.Asked.{names_asked, is_tallied};
+ghost use Rattle.eddyql.specs.Asked.{names_asked, tables_asked, accesses_asked, is_tallied, loads_none, are_fileless};
 ghost use Rattle.eddyql.specs.Asked as asking;
-ghost use Rattle.eddyql.specs.Ending.{AnsweredBy, EndedBy, NotedLines, Finished, stop_of};
+ghost use Rattle.eddyql.specs.Ending.{AnsweredBy, Ran, Finished, stop_of};
 ghost use Rattle.eddyql.specs.Lines.{AllLines, SomeLines, IsCutOff, IsNotedBehind, MayFail};
-ghost use Rattle.eddyql.specs.Outcome.{Due, IsOutcome, OneOutcome, ReachedBy, items_of, status_of, task_text, text_due};
+ghost use Rattle.eddyql.specs.Outcome.{Due, IsOutcome, OneOutcome, OverGiven, ReachedBy, items_of, status_of, task_text, text_due};
 ghost use Rattle.eddyql.specs.Run.{MayEnd, IsBeforeOutput};
 
 use crate::asking::{Request, asked};
@@ -102,13 +102,11 @@ fn run_query<F: Folder, O: Sink, N: Sink, P: Predicates + Sync, G: Gate, R: Thre
 ) -> End
     requires task { IsTask request.now.task }
     requires settings { AreSettings request.now.settings }
-    ensures ended { let p = predicates (P.number_of functions.now) (P.kinds_of functions.now) P.gives in
+    ensures ran { let p = predicates (P.number_of functions.now) (P.kinds_of functions.now) P.gives in
         (words : List (List ℕ)) → asking.asked words ≡ Some request.now
-        → EndedBy p words (world_seen (F.holds folder.old) (F.faults folder.old) outputs.old)
+        → Ran p words (world_seen (F.holds folder.old) (F.faults folder.old) outputs.old)
         (world_seen (F.holds folder.new) (F.faults folder.new) outputs.new) result }
-    ensures lines { let p = predicates (P.number_of functions.now) (P.kinds_of functions.now) P.gives in
-        (words : List (List ℕ)) → asking.asked words ≡ Some request.now
-        → NotedLines p words (F.holds folder.old) outputs.old outputs.new result }
+    ensures untouched { loads_none request.now.task ≡ true → folder.new ≡ folder.old }
 {
     match plan_for(host.alloc, request, folder, functions) {
         Ok(plan) => {
@@ -148,10 +146,11 @@ fn run_noted<F: Folder, O: Sink, N: Sink, P: Predicates + Sync, G: Gate, R: Thre
 ) -> Status
     requires task { IsTask request.now.task }
     requires settings { AreSettings request.now.settings }
-    ensures { let p = predicates (P.number_of functions.now) (P.kinds_of functions.now) P.gives in
+    ensures finished { let p = predicates (P.number_of functions.now) (P.kinds_of functions.now) P.gives in
         (words : List (List ℕ)) → asking.asked words ≡ Some request.now
         → Finished p words (world_seen (F.holds folder.old) (F.faults folder.old) outputs.old)
         (world_seen (F.holds folder.new) (F.faults folder.new) outputs.new) result }
+    ensures untouched { loads_none request.now.task ≡ true → folder.new ≡ folder.old }
 {
     match run_query(host, functions, request, folder, outputs) {
         End::By(status) => note(host.alloc, request.tables(), status, outputs),
@@ -170,7 +169,7 @@ fn run_words<F: Folder, O: Sink, N: Sink, P: Predicates + Sync, G: Gate, R: Thre
     ensures finished { let p = predicates (P.number_of functions.now) (P.kinds_of functions.now) P.gives in
         Finished p (map string_bytes words.now) (world_seen (F.holds folder.old) (F.faults folder.old) outputs.old)
         (world_seen (F.holds folder.new) (F.faults folder.new) outputs.new) result }
-    ensures untouched { asking.asked (map string_bytes words.now) ≡ None → folder.new ≡ folder.old }
+    ensures untouched { are_fileless (map string_bytes words.now) ≡ true → folder.new ≡ folder.old }
 {
     match asked(host.alloc, words) {
         Ok(request) => run_noted(host, functions, &request, folder, outputs),
@@ -183,13 +182,13 @@ fn run_words<F: Folder, O: Sink, N: Sink, P: Predicates + Sync, G: Gate, R: Thre
 /// The words don't hold the program's own name. In this order they are read, the script is loaded and
 /// parsed, each table is loaded and read, the columns of the accesses are found, and all statements
 /// are bound; then each statement is run, and its answer is written to the output: its matches in order,
-/// or with groups, DISTINCT or LIMIT the lines that are made of them. Nothing is written before. The
-/// first refusal ends the run, and one line on the notes says why.
+/// or with groups, DISTINCT or LIMIT the lines that are made of them. The first refusal ends the run,
+/// and one line on the notes says why. One that comes before a statement is run leaves the output as it was.
 ///
-/// Where the folder tells what it holds, `Done` has written exactly the text of the outcome of these
-/// words, files and predicates, and any refusal but a fault of the folder or the output, or want of
-/// memory, is that outcome's, and has written exactly the text before it. Want of memory may come at any
-/// point, and leaves a front of the text.
+/// `Done` has written exactly the text of the outcome of these words and predicates over what was given
+/// of the words' files, which is what the folder holds, where it tells that. Any refusal but a fault of
+/// the folder or the output, or want of memory, is that outcome's, and has written exactly the text
+/// before it. Want of memory may come at any point, and leaves a front of the text.
 ///
 /// With `--tally` a line of counts is put to the notes behind each answer. A fault there ends the run as `Write`,
 /// and nothing is put behind it.
@@ -208,33 +207,40 @@ pub fn run<F: Folder, O: Sink, N: Sink, P: Predicates + Sync, G: Gate, R: Thread
     ensures folder_counts { NeverFalls (F.faults folder.old) (F.faults folder.new) }
     ensures out_counts { NeverFalls outputs.old.out.faults outputs.new.out.faults }
 
-    // The headline: what is written where the run is done.
+    // The headline: what is written where the run is done, by what was given of the words' files. This is what the
+    // folder holds, where it tells that.
     ensures done { let p = predicates (P.number_of functions.now) (P.kinds_of functions.now) P.gives in
-        result ≡ Status.Done → (files : List File) → F.holds folder.old ≡ Some files
-        → (due : Due) × IsOutcome p (map string_bytes words.now) files due × (due.refusal ≡ None)
+        result ≡ Status.Done → OverGiven (map string_bytes words.now) (F.holds folder.old) (λ given.
+        (due : Due) × IsOutcome p (map string_bytes words.now) given due × (due.refusal ≡ None)
         × Adds outputs.old.out.written outputs.new.out.written
-        (text_due p (map string_bytes words.now) due) }
+        (text_due p (map string_bytes words.now) due)) }
+
+    // No put of a run that is done failed.
+    ensures out_kept { result ≡ Status.Done → outputs.new.out.faults ≡ outputs.old.out.faults }
 
     // And where it ends by what the outcome refuses.
     ensures refused { let p = predicates (P.number_of functions.now) (P.kinds_of functions.now) P.gives in
-        (files : List File) → F.holds folder.old ≡ Some files
-        → (due : Due) → IsOutcome p (map string_bytes words.now) files due → due.refusal ≡ Some result
+        OverGiven (map string_bytes words.now) (F.holds folder.old) (λ given.
+        (due : Due) → IsOutcome p (map string_bytes words.now) given due → due.refusal ≡ Some result
         → Adds outputs.old.out.written outputs.new.out.written
-        (text_due p (map string_bytes words.now) due) }
+        (text_due p (map string_bytes words.now) due)) }
 
     // Each status has its cause.
     ensures causes { let p = predicates (P.number_of functions.now) (P.kinds_of functions.now) P.gives in
-        (files : List File) → F.holds folder.old ≡ Some files
-        → MayEnd (λ file. RoseOrFull (F.faults folder.old) (F.faults folder.new)
-        × ReachedBy (map string_bytes words.now) files file)
+        OverGiven (map string_bytes words.now) (F.holds folder.old) (λ given.
+        MayEnd (λ file. RoseOrFull (F.faults folder.old) (F.faults folder.new)
+        × ReachedBy (map string_bytes words.now) given file)
         (MayFail (map string_bytes words.now) outputs.old outputs.new)
-        (IsOutcome p (map string_bytes words.now) files) result }
+        (IsOutcome p (map string_bytes words.now) given) result) }
     ensures usage_only { result ≡ Status.Usage → asking.asked (map string_bytes words.now) ≡ None }
     ensures usage { asking.asked (map string_bytes words.now) ≡ None
         → (result ≡ Status.Usage) ⊎ (result ≡ Status.Memory) }
-    ensures untouched { asking.asked (map string_bytes words.now) ≡ None → folder.new ≡ folder.old }
+    // Words that aren't in form, or ask for the demo, load nothing.
+    ensures untouched { are_fileless (map string_bytes words.now) ≡ true → folder.new ≡ folder.old }
     ensures kept { UnlessReadOrMemory result (F.faults folder.new ≡ F.faults folder.old) }
     ensures placed { IsPlaced result }
+    ensures named { IsNamed (length (tables_asked (map string_bytes words.now)))
+        (length (accesses_asked (map string_bytes words.now))) result }
     ensures read { (file : FileOf) → result ≡ Status.Read file
         → RoseOrFull (F.faults folder.old) (F.faults folder.new) }
     ensures write { result ≡ Status.Write
@@ -243,45 +249,44 @@ pub fn run<F: Folder, O: Sink, N: Sink, P: Predicates + Sync, G: Gate, R: Thread
 
     // Without a fault the status is the outcome's, or want of memory.
     ensures complete { let p = predicates (P.number_of functions.now) (P.kinds_of functions.now) P.gives in
-        (files : List File) → F.holds folder.old ≡ Some files
-        → ¬ (RoseOrFull (F.faults folder.old) (F.faults folder.new))
+        ¬ (RoseOrFull (F.faults folder.old) (F.faults folder.new))
         → ¬ (MayFail (map string_bytes words.now) outputs.old outputs.new)
-        → (due : Due) → IsOutcome p (map string_bytes words.now) files due
-        → (result ≡ status_of due) ⊎ (result ≡ Status.Memory) }
+        → OverGiven (map string_bytes words.now) (F.holds folder.old) (λ given.
+        (due : Due) → IsOutcome p (map string_bytes words.now) given due
+        → (result ≡ status_of due) ⊎ (result ≡ Status.Memory)) }
 
-    // Nothing but a front of the text that is due is written, and nothing at all by a refusal before the output.
-    ensures nothing { IsBeforeOutput result → outputs.new.out.written ≡ outputs.old.out.written }
+    // Nothing but a front of the text that is due is written, and a refusal before the output leaves it as it was.
+    ensures nothing { IsBeforeOutput result → outputs.new.out ≡ outputs.old.out }
     ensures front { let p = predicates (P.number_of functions.now) (P.kinds_of functions.now) P.gives in
-        (files : List File) → F.holds folder.old ≡ Some files
-        → (due : Due) → IsOutcome p (map string_bytes words.now) files due
+        OverGiven (map string_bytes words.now) (F.holds folder.old) (λ given.
+        (due : Due) → IsOutcome p (map string_bytes words.now) given due
         → AddsFront outputs.old.out.written outputs.new.out.written
-        (text_due p (map string_bytes words.now) due) }
+        (text_due p (map string_bytes words.now) due)) }
 
     // Where lines of counts are wanted, one stands on the notes for each statement of a run that is done,
-    // right for its statement, whose text the output took, and nothing else; else nothing is put to them.
+    // right for its statement, whose text the output took, and nothing else; else they are as they were.
     ensures tallied { let p = predicates (P.number_of functions.now) (P.kinds_of functions.now) P.gives in
-        result ≡ Status.Done → (lines : List ℕ)
-        × AllLines p (map string_bytes words.now) (F.holds folder.old) outputs.old.out outputs.new.out
-        lines
-        × Adds outputs.old.notes.written outputs.new.notes.written lines }
+        result ≡ Status.Done → OverGiven (map string_bytes words.now) (F.holds folder.old) (λ given. (lines : List ℕ)
+        × AllLines p (map string_bytes words.now) given outputs.old.out outputs.new.out lines
+        × Adds outputs.old.notes.written outputs.new.notes.written lines) }
     ensures silent { result ≡ Status.Done → is_tallied (map string_bytes words.now) ≡ false
-        → outputs.new.notes.written ≡ outputs.old.notes.written }
+        → outputs.new.notes ≡ outputs.old.notes }
     ensures silent_count { result ≡ Status.Done
         → outputs.new.notes.faults ≡ outputs.old.notes.faults }
 
     // Behind the lines of just the finished statements one line says why a run was refused; but nothing is put
     // behind a fault of the notes at the line of the one whose text was last written.
     ensures noted { let p = predicates (P.number_of functions.now) (P.kinds_of functions.now) P.gives in
-        result ≢ Status.Done → ((lines : List ℕ)
-        × SomeLines p (map string_bytes words.now) (F.holds folder.old) outputs.old.out
-        outputs.new.out lines
+        result ≢ Status.Done → OverGiven (map string_bytes words.now) (F.holds folder.old) (λ given.
+        ((lines : List ℕ)
+        × SomeLines p (map string_bytes words.now) given outputs.old.out outputs.new.out lines
         × IsNotedBehind outputs.old.notes outputs.new.notes lines
         (line_of (names_asked (map string_bytes words.now)) result))
-        ⊎ ((result ≡ Status.Write) × IsCutOff p (map string_bytes words.now) (F.holds folder.old)
-        outputs.old outputs.new) }
+        ⊎ ((result ≡ Status.Write) × IsCutOff p (map string_bytes words.now) given outputs.old outputs.new)) }
     ensures cut { let p = predicates (P.number_of functions.now) (P.kinds_of functions.now) P.gives in
         result ≡ Status.Write → ¬ (RoseOrFull outputs.old.out.faults outputs.new.out.faults)
-        → IsCutOff p (map string_bytes words.now) (F.holds folder.old) outputs.old outputs.new }
+        → OverGiven (map string_bytes words.now) (F.holds folder.old) (λ given.
+        IsCutOff p (map string_bytes words.now) given outputs.old outputs.new) }
 
     // All of this in one, for those who hand the words on.
     ensures finished { let p = predicates (P.number_of functions.now) (P.kinds_of functions.now) P.gives in
@@ -291,7 +296,7 @@ pub fn run<F: Folder, O: Sink, N: Sink, P: Predicates + Sync, G: Gate, R: Thread
     run_words(host, functions, words, folder, outputs)
 }
 
-/// The law that words over files have one outcome, whatever the predicates. It does nothing.
+/// The law that words over what is given have one outcome, whatever the predicates. It does nothing.
 pub fn one_outcome()
     ensures { OneOutcome }
 {}

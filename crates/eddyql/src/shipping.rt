@@ -1,9 +1,8 @@
 //! The program as it is shipped: with `divides`, `same_sign` and `near10` as its predicates.
 
-ghost use Rattle.std.specs.Prelude.{◌≡◌, ◌⊎◌, ◌++◌, ◌∷◌, [], ◌<◌, false, length, List, Some, None, IfOk, OnOk, OnErr, map, drop};
+ghost use Rattle.std.specs.Prelude.{◌≡◌, ◌⊎◌, ◌++◌, ◌∷◌, [], ◌<◌, true, false, length, List, Some, None, IfOk, OnOk, OnErr, map, drop};
 ghost use Rattle.std.specs.Process.{exit_status};
 ghost use Rattle.std.specs.String.{string_bytes};
-ghost use Rattle.outside.specs.Files.{File};
 ghost use Rattle.outside.specs.Faults.{RoseOrFull};
 ghost use Rattle.outside.specs.Told.{Adds};
 ghost use Rattle.fn_registry.specs.Registry.{is_taken};
@@ -11,10 +10,10 @@ ghost use Rattle.fn_registry.specs.Signatures.{signatures};
 ghost use Rattle.run_base.specs.Seen.{world_seen};
 ghost use Rattle.run_plan.specs.Stage.{stage_of, code_of};
 ghost use Rattle.run_plan.specs.declared.status.Status.{Status as Ending};
-ghost use Rattle.eddyql.specs.Asked.{asked};
+ghost use Rattle.eddyql.specs.Asked.{asked, are_fileless};
 ghost use Rattle.eddyql.specs.Ending.{Finished};
 ghost use Rattle.eddyql.specs.Lines.{MayFail};
-ghost use Rattle.eddyql.specs.Outcome.{Due, IsOutcome, status_of, text_due};
+ghost use Rattle.eddyql.specs.Outcome.{Due, IsOutcome, OverGiven, status_of, text_due};
 ghost use Rattle.eddyql.specs.Shipped.{shipped_predicates};
 
 use crate::host::Host;
@@ -62,19 +61,21 @@ fn run_shipped<F: Folder, O: Sink, N: Sink, G: Gate, R: Threads + Wait + Sync>(
 ) -> Result<ExitCode, Memory>
     ensures usage { asked (drop 1 (map string_bytes words.now)) ≡ None
         → IfOk result (λ code. (exit_status code ≡ 2) ⊎ (exit_status code ≡ 9)) }
-    ensures done { IfOk result (λ code. exit_status code ≡ 0 → (files : List File) → F.holds folder.old ≡ Some files
-        → (due : Due) × IsOutcome shipped_predicates (drop 1 (map string_bytes words.now)) files due
+    ensures done { IfOk result (λ code. exit_status code ≡ 0
+        → OverGiven (drop 1 (map string_bytes words.now)) (F.holds folder.old) (λ given.
+        (due : Due) × IsOutcome shipped_predicates (drop 1 (map string_bytes words.now)) given due
         × (due.refusal ≡ None) × Adds outputs.old.out.written outputs.new.out.written
-        (text_due shipped_predicates (drop 1 (map string_bytes words.now)) due)) }
-    ensures complete { IfOk result (λ code. (files : List File) → F.holds folder.old ≡ Some files
-        → ¬ (RoseOrFull (F.faults folder.old) (F.faults folder.new))
+        (text_due shipped_predicates (drop 1 (map string_bytes words.now)) due))) }
+    ensures complete { IfOk result (λ code. ¬ (RoseOrFull (F.faults folder.old) (F.faults folder.new))
         → ¬ (MayFail (drop 1 (map string_bytes words.now)) outputs.old outputs.new)
-        → (due : Due) → IsOutcome shipped_predicates (drop 1 (map string_bytes words.now)) files due
-        → (exit_status code ≡ code_of (stage_of (status_of due))) ⊎ (exit_status code ≡ 9)) }
+        → OverGiven (drop 1 (map string_bytes words.now)) (F.holds folder.old) (λ given.
+        (due : Due) → IsOutcome shipped_predicates (drop 1 (map string_bytes words.now)) given due
+        → (exit_status code ≡ code_of (stage_of (status_of due))) ⊎ (exit_status code ≡ 9))) }
     ensures finished { IfOk result (λ code. (s : Ending) × (exit_status code ≡ code_of (stage_of s))
         × Finished shipped_predicates (drop 1 (map string_bytes words.now))
         (world_seen (F.holds folder.old) (F.faults folder.old) outputs.old)
         (world_seen (F.holds folder.new) (F.faults folder.new) outputs.new) s) }
+    ensures fileless { are_fileless (drop 1 (map string_bytes words.now)) ≡ true → folder.new ≡ folder.old }
     ensures untouched { OnErr result ((folder.new ≡ folder.old) × (outputs.new ≡ outputs.old)) }
 {
     let mut functions: Functions<SHIPPED> = Functions::new(host.alloc);
@@ -102,20 +103,22 @@ pub fn program_as_shipped<F: Folder, O: Sink, N: Sink, G: Gate, R: Threads + Wai
 ) -> ExitCode
     ensures usage { asked (drop 1 (map string_bytes words.now)) ≡ None
         → (exit_status result ≡ 2) ⊎ (exit_status result ≡ 9) }
-    ensures done { exit_status result ≡ 0 → (files : List File) → F.holds folder.old ≡ Some files
-        → (due : Due) × IsOutcome shipped_predicates (drop 1 (map string_bytes words.now)) files due
+    ensures done { exit_status result ≡ 0
+        → OverGiven (drop 1 (map string_bytes words.now)) (F.holds folder.old) (λ given.
+        (due : Due) × IsOutcome shipped_predicates (drop 1 (map string_bytes words.now)) given due
         × (due.refusal ≡ None) × Adds outputs.old.out.written outputs.new.out.written
-        (text_due shipped_predicates (drop 1 (map string_bytes words.now)) due) }
-    ensures refused { (files : List File) → F.holds folder.old ≡ Some files
-        → (due : Due) → IsOutcome shipped_predicates (drop 1 (map string_bytes words.now)) files due
+        (text_due shipped_predicates (drop 1 (map string_bytes words.now)) due)) }
+    ensures refused { OverGiven (drop 1 (map string_bytes words.now)) (F.holds folder.old) (λ given.
+        (due : Due) → IsOutcome shipped_predicates (drop 1 (map string_bytes words.now)) given due
         → (s : Ending) × (exit_status result ≡ code_of (stage_of s)) × (due.refusal ≡ Some s
         → Adds outputs.old.out.written outputs.new.out.written
-        (text_due shipped_predicates (drop 1 (map string_bytes words.now)) due)) }
-    ensures complete { (files : List File) → F.holds folder.old ≡ Some files
-        → ¬ (RoseOrFull (F.faults folder.old) (F.faults folder.new))
+        (text_due shipped_predicates (drop 1 (map string_bytes words.now)) due))) }
+    ensures complete { ¬ (RoseOrFull (F.faults folder.old) (F.faults folder.new))
         → ¬ (MayFail (drop 1 (map string_bytes words.now)) outputs.old outputs.new)
-        → (due : Due) → IsOutcome shipped_predicates (drop 1 (map string_bytes words.now)) files due
-        → (exit_status result ≡ code_of (stage_of (status_of due))) ⊎ (exit_status result ≡ 9) }
+        → OverGiven (drop 1 (map string_bytes words.now)) (F.holds folder.old) (λ given.
+        (due : Due) → IsOutcome shipped_predicates (drop 1 (map string_bytes words.now)) given due
+        → (exit_status result ≡ code_of (stage_of (status_of due))) ⊎ (exit_status result ≡ 9)) }
+    ensures untouched { are_fileless (drop 1 (map string_bytes words.now)) ≡ true → folder.new ≡ folder.old }
     ensures finished { (s : Ending) × (exit_status result ≡ code_of (stage_of s))
         × Finished shipped_predicates (drop 1 (map string_bytes words.now))
         (world_seen (F.holds folder.old) (F.faults folder.old) outputs.old)

@@ -168,42 +168,52 @@ ordered_fit kinds tables block fit = record { few = fit.few_aliases; order = fit
 
 -- ---- the text
 
+-- a sink that is as it was shows what it showed
+pub same_written : {S : Type 0} (old new : Sink S) → new ≡ old → new.written ≡ old.written
+same_written {S} old new same = ap (λ (s : Sink S). s.written) same
+
+pub same_faults : {S : Type 0} (old new : Sink S) → new ≡ old → new.faults ≡ old.faults
+same_faults {S} old new same = ap (λ (s : Sink S). s.faults) same
+
 -- nothing was written
-pub wrote_nothing : (s : Sink) → Wrote s s [] {A = Unit {0}} (Ok tt)
-wrote_nothing s = record { counts = omega arith; ok = Adds-nothing s.written; failed = λ e. absurd cc; front = tt }
+pub wrote_nothing : {S : Type 0} (s : Sink S) → Wrote s s [] {A = Unit {0}} (Ok tt)
+wrote_nothing s = record { counts = omega arith; ok = Adds-nothing s.written; kept = refl; failed = λ e. absurd cc; front = tt }
 
 -- want of memory, before anything was written
-pub wrote_no_memory : (s : Sink) (text : List ℕ) → Wrote s s text {A = Unit {0}} (Err write.Memory)
-wrote_no_memory s text = record { counts = omega arith; ok = tt; failed = λ e. absurd cc; front = AddsFront-nothing s.written text }
+pub wrote_no_memory : {S : Type 0} (s : Sink S) (text : List ℕ) → Wrote s s text {A = Unit {0}} (Err write.Memory)
+wrote_no_memory s text = record { counts = omega arith; ok = tt; kept = tt; failed = λ e. absurd cc; front = AddsFront-nothing s.written text }
 
 -- a text is written behind another
-pub wrote_behind : (old mid new : Sink) (first second : List ℕ) (r : Result (Unit {0}) WriteFault) → Wrote old mid first {A = Unit {0}} (Ok tt)
+pub wrote_behind : {S : Type 0} (old mid new : Sink S) (first second : List ℕ) (r : Result (Unit {0}) WriteFault) → Wrote old mid first {A = Unit {0}} (Ok tt)
     → Wrote mid new second r → Wrote old new (first ++ second) r
 wrote_behind old mid new first second (Ok x) w v = record {
   counts = omega (arith, w.counts, v.counts);
   ok = Adds-twice old.written mid.written new.written first second w.ok v.ok;
+  kept = v.kept ∙ w.kept;
   failed = λ e. absurd cc;
   front = tt;
 }
 wrote_behind old mid new first second (Err e) w v = record {
   counts = omega (arith, w.counts, v.counts);
   ok = tt;
+  kept = tt;
   failed = λ f. RoseOrFull-earlier old.faults mid.faults new.faults w.counts (v.failed f);
   front = AddsFront-after old.written mid.written new.written first second w.ok v.front;
 }
 
 -- a text of which a front was written is a front of a longer one
-pub wrote_front : (old new : Sink) (first second : List ℕ) (e : WriteFault) → Wrote old new first {A = Unit {0}} (Err e)
+pub wrote_front : {S : Type 0} (old new : Sink S) (first second : List ℕ) (e : WriteFault) → Wrote old new first {A = Unit {0}} (Err e)
     → Wrote old new (first ++ second) {A = Unit {0}} (Err e)
 wrote_front old new first second e w = record {
   counts = w.counts;
   ok = tt;
+  kept = tt;
   failed = w.failed;
   front = AddsFront-longer old.written new.written first second w.front;
 }
 
 -- the same of an equal text
-pub wrote_text : (old new : Sink) (text other : List ℕ) (r : Result (Unit {0}) WriteFault) → text ≡ other → Wrote old new text r → Wrote old new other r
+pub wrote_text : {S : Type 0} (old new : Sink S) (text other : List ℕ) (r : Result (Unit {0}) WriteFault) → text ≡ other → Wrote old new text r → Wrote old new other r
 wrote_text old new text other r e w = subst (λ (x : List ℕ). Wrote old new x r) e w
 
 -- a text that begins with a record isn't empty

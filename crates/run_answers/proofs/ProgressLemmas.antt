@@ -16,12 +16,12 @@ use Rattle.run_base.specs.Seen.{Sink, Outputs}
 use Rattle.run_answers.specs.Lines.{AreLines, IsLine}
 use Rattle.run_answers.specs.declared.stopping.Stop.{Stop}
 use Rattle.run_answers.specs.declared.stopping.Stop.TheVariants as stop
-use Rattle.run_answers.proofs.AnswerLemmas.{wrote_nothing, wrote_behind, wrote_front, wrote_text}
+use Rattle.run_answers.proofs.AnswerLemmas.{same_faults, wrote_nothing, wrote_behind, wrote_front, wrote_text}
 use Rattle.run_answers.proofs.LineLemmas.{AreLines-none, AreLines-one, AreLines-append}
 
 -- a sink that shows what it showed took nothing
-put_none : (old new : Sink) → new ≡ old → Adds old.written new.written []
-put_none old new same = subst (λ (s : Sink). Adds old.written s.written []) (sym same) (Adds-nothing old.written)
+put_none : {S : Type 0} (old new : Sink S) → new ≡ old → Adds old.written new.written []
+put_none {S} old new same = subst (λ (s : Sink S). Adds old.written s.written []) (sym same) (Adds-nothing old.written)
 
 module _ {A : Type 0} where
   -- ---- texts of statements, one behind another
@@ -48,7 +48,7 @@ module _ {A : Type 0} where
 
   -- ---- how much of all texts was written
 
-  took_whole : (text : List A → List ℕ) (items : List A) (old new : Sink) → Adds old.written new.written (text items)
+  took_whole : {S : Type 0} (text : List A → List ℕ) (items : List A) (old new : Sink S) → Adds old.written new.written (text items)
       → TookSoFar text items [] old new
   took_whole text items old new h = record {
     added = text items;
@@ -59,7 +59,7 @@ module _ {A : Type 0} where
   }
 
   -- a front of the first one's text, and the count rose
-  took_front : (text : List A → List ℕ) (items : List A) (first more : List ℕ) (old new : Sink) → text (take 1 items) ≡ first ++ more
+  took_front : {S : Type 0} (text : List A → List ℕ) (items : List A) (first more : List ℕ) (old new : Sink S) → text (take 1 items) ≡ first ++ more
       → AddsFront old.written new.written first → RoseOrFull old.faults new.faults → TookSoFar text [] items old new
   took_front text items first more old new is (front, rest, split, adds) rose = record {
     added = front;
@@ -70,7 +70,7 @@ module _ {A : Type 0} where
   }
 
   -- a part of it
-  took_part : (text : List A → List ℕ) (b : A) (more : List A) (first : List ℕ) (old new : Sink) → text (b ∷ []) ≡ first
+  took_part : {S : Type 0} (text : List A → List ℕ) (b : A) (more : List A) (first : List ℕ) (old new : Sink S) → text (b ∷ []) ≡ first
       → AddsPart old.written new.written first → TookSoFar text [] (b ∷ more) old new
   took_part text b more first old new is (front, rest, split, some, adds) = record {
     added = front;
@@ -81,7 +81,7 @@ module _ {A : Type 0} where
   }
 
   -- the texts of statements behind those that are finished
-  took_after : (text behind : List A → List ℕ) (xs finished left : List A) (first : List ℕ) (old mid new : Sink)
+  took_after : {S : Type 0} (text behind : List A → List ℕ) (xs finished left : List A) (first : List ℕ) (old mid new : Sink S)
       → ((zs : List A) → text (xs ++ zs) ≡ first ++ behind zs) → behind [] ≡ [] → Adds old.written mid.written first
       → NeverFalls old.faults mid.faults → TookSoFar behind finished left mid new → TookSoFar text (xs ++ finished) left old new
   took_after text behind xs finished left first old mid new law none put counts k = record {
@@ -111,14 +111,14 @@ module _ {A : Type 0} where
   -- ---- statements with their lines
 
   -- a stop by the output is one for the lines as any other
-  pub tallied_output : (tally : Bool) (IsRight : ℕ → A → List ℕ → Type 0) (number : ℕ) (items : List A) (text : List A → List ℕ)
-      (old new : Outputs) → Tallied tally IsRight number items text old new (Err stop.Output)
+  pub tallied_output : {O N : Type 0} (tally : Bool) (IsRight : ℕ → A → List ℕ → Type 0) (number : ℕ) (items : List A) (text : List A → List ℕ)
+      (old new : Outputs O N) → Tallied tally IsRight number items text old new (Err stop.Output)
       → Tallied tally IsRight number items text old new (Err stop.Memory)
   tallied_output tally IsRight number items text old new h =
       record { finished = h.finished; left = h.left; split = h.split; lines = h.lines; are = h.are; end' = h.end'; quiet = h.quiet }
 
   -- a text before any statement
-  pub answers_text : (tally : Bool) (IsRight : ℕ → A → List ℕ → Type 0) (number : ℕ) (text : List A → List ℕ) (old new : Outputs) → new.notes ≡ old.notes
+  pub answers_text : {O N : Type 0} (tally : Bool) (IsRight : ℕ → A → List ℕ → Type 0) (number : ℕ) (text : List A → List ℕ) (old new : Outputs O N) → new.notes ≡ old.notes
       → Wrote old.out new.out (text []) {A = Unit {0}} (Ok tt) → Answers tally IsRight number [] text old new (Ok tt)
   answers_text tally IsRight number text old new same w = record {
     out = w;
@@ -131,25 +131,25 @@ module _ {A : Type 0} where
       end' = (
         record {
           put = put_none old.notes new.notes same;
-          counts = omega (arith, ap (λ (s : Sink). s.faults) same);
+          counts = omega (arith, same_faults old.notes new.notes same);
           took = took_whole text [] old.out new.out w.ok;
         },
         refl,
-        ap (λ (s : Sink). s.faults) same,
+        same_faults old.notes new.notes same,
       );
       quiet = λ q. same;
     };
   }
 
   -- nothing was put
-  pub answers_nothing : (tally : Bool) (IsRight : ℕ → A → List ℕ → Type 0) (number : ℕ) (text : List A → List ℕ) (old : Outputs) → text [] ≡ []
+  pub answers_nothing : {O N : Type 0} (tally : Bool) (IsRight : ℕ → A → List ℕ → Type 0) (number : ℕ) (text : List A → List ℕ) (old : Outputs O N) → text [] ≡ []
       → Answers tally IsRight number [] text old old (Ok tt)
   answers_nothing tally IsRight number text old e =
       answers_text tally IsRight number text old old refl (wrote_text old.out old.out [] (text []) (Ok tt) (sym e) (wrote_nothing old.out))
 
   -- one statement is finished
-  pub answers_single : (tally : Bool) (IsRight : ℕ → A → List ℕ → Type 0) (number : ℕ) (b : A) (text : List A → List ℕ) (one : List ℕ)
-      (old new : Outputs) → text (b ∷ []) ≡ one → AnswersOne tally IsRight number b one old new (Ok tt)
+  pub answers_single : {O N : Type 0} (tally : Bool) (IsRight : ℕ → A → List ℕ → Type 0) (number : ℕ) (b : A) (text : List A → List ℕ) (one : List ℕ)
+      (old new : Outputs O N) → text (b ∷ []) ≡ one → AnswersOne tally IsRight number b one old new (Ok tt)
       → Answers tally IsRight number (b ∷ []) text old new (Ok tt)
   answers_single tally IsRight number b text one old new e o =
       let w : Wrote old.out new.out (text (b ∷ [])) {A = Unit {0}} (Ok tt) = wrote_text old.out new.out one (text (b ∷ [])) (Ok tt) (sym e) o.put.out in
@@ -171,8 +171,8 @@ module _ {A : Type 0} where
       }
 
   -- the first of some statements stopped
-  pub answers_halted : (tally : Bool) (IsRight : ℕ → A → List ℕ → Type 0) (number : ℕ) (b : A) (bs : List A) (text : List A → List ℕ)
-      (one behind : List ℕ) (old new : Outputs) (y : Stop) → text (b ∷ []) ≡ one → text (b ∷ bs) ≡ one ++ behind
+  pub answers_halted : {O N : Type 0} (tally : Bool) (IsRight : ℕ → A → List ℕ → Type 0) (number : ℕ) (b : A) (bs : List A) (text : List A → List ℕ)
+      (one behind : List ℕ) (old new : Outputs O N) (y : Stop) → text (b ∷ []) ≡ one → text (b ∷ bs) ≡ one ++ behind
       → AnswersOne tally IsRight number b one old new (Err y)
       → Answers tally IsRight number (b ∷ bs) text old new (Err y)
   answers_halted tally IsRight number b bs text one behind old new stop.Output e f o = record {
@@ -185,7 +185,7 @@ module _ {A : Type 0} where
       are = AreLines-none tally IsRight number;
       end' = record {
         put = put_none old.notes new.notes o.put.notes;
-        counts = omega (arith, ap (λ (s : Sink). s.faults) o.put.notes);
+        counts = omega (arith, same_faults old.notes new.notes o.put.notes);
         took = took_front text (b ∷ bs) one [] old.out new.out (e ∙ sym (append-nil one)) o.put.out.front (o.put.out.failed refl);
       };
       quiet = λ q. o.put.notes;
@@ -199,7 +199,7 @@ module _ {A : Type 0} where
       split = refl;
       lines = [];
       are = AreLines-none tally IsRight number;
-      end' = record { put = put_none old.notes new.notes o.put.notes; counts = omega (arith, ap (λ (s : Sink). s.faults) o.put.notes); took = took_part text b bs one old.out new.out e (o.put.short refl) };
+      end' = record { put = put_none old.notes new.notes o.put.notes; counts = omega (arith, same_faults old.notes new.notes o.put.notes); took = took_part text b bs one old.out new.out e (o.put.short refl) };
       quiet = λ q. o.put.notes;
     };
   }
@@ -217,6 +217,7 @@ module _ {A : Type 0} where
           rest = bs;
           is = refl;
           whole = subst (λ (z : List ℕ). Adds old.out.written new.out.written z) (sym e) (o.put.whole refl);
+          kept = o.put.kept refl;
           line = line_bytes o.line;
           right = subst (λ (n : ℕ). IsRight n b (line_bytes o.line)) same
               (subst (λ (t : Bool). IsLine t IsRight number b (line_bytes o.line)) wanted o.right.right);
@@ -240,8 +241,8 @@ module _ {A : Type 0} where
       wanted = which tally (λ q. o.put.notes.1 (o.right.none q))
 
   -- statements behind others that are finished
-  tallied_after : (tally : Bool) (IsRight : ℕ → A → List ℕ → Type 0) (number : ℕ) (xs ys : List A) (text before behind : List A → List ℕ)
-      (old mid new : Outputs) (r : Result (Unit {0}) Stop)
+  tallied_after : {O N : Type 0} (tally : Bool) (IsRight : ℕ → A → List ℕ → Type 0) (number : ℕ) (xs ys : List A) (text before behind : List A → List ℕ)
+      (old mid new : Outputs O N) (r : Result (Unit {0}) Stop)
       → ((zs : List A) → text (xs ++ zs) ≡ before xs ++ behind zs) → behind [] ≡ []
       → Answers tally IsRight number xs before old mid (Ok tt)
       → Tallied tally IsRight (number + length xs) ys behind mid new r
@@ -279,6 +280,7 @@ module _ {A : Type 0} where
             whole = subst (λ (z : List ℕ). Adds old.out.written new.out.written z)
                 (sym (law (b.finished ++ k.next ∷ [])) ∙ ap text (sym (append_assoc xs b.finished (k.next ∷ []))))
                 (Adds-twice old.out.written mid.out.written new.out.written (before xs) (behind (b.finished ++ k.next ∷ [])) a.out.ok k.whole);
+            kept = k.kept ∙ a.out.kept;
             line = k.line;
             right = subst (λ (n : ℕ). IsRight n k.next k.line) numbers k.right;
             front = (
@@ -299,8 +301,8 @@ module _ {A : Type 0} where
       ends (Err stop.Output) k = lines_put k
       ends (Err stop.Memory) k = lines_put k
 
-  pub answers_after : (tally : Bool) (IsRight : ℕ → A → List ℕ → Type 0) (number : ℕ) (xs ys : List A) (text before behind : List A → List ℕ)
-      (old mid new : Outputs) (r : Result (Unit {0}) Stop)
+  pub answers_after : {O N : Type 0} (tally : Bool) (IsRight : ℕ → A → List ℕ → Type 0) (number : ℕ) (xs ys : List A) (text before behind : List A → List ℕ)
+      (old mid new : Outputs O N) (r : Result (Unit {0}) Stop)
       → ((zs : List A) → text (xs ++ zs) ≡ before xs ++ behind zs) → behind [] ≡ []
       → Answers tally IsRight number xs before old mid (Ok tt)
       → Answers tally IsRight (number + length xs) ys behind mid new r
@@ -312,21 +314,21 @@ module _ {A : Type 0} where
   }
 
   -- the same of an equal answer, and of equal items
-  answers_is : (tally : Bool) (IsRight : ℕ → A → List ℕ → Type 0) (number : ℕ) (items : List A) (text : List A → List ℕ)
-      (old new : Outputs) (r q : Result (Unit {0}) Stop) → r ≡ q → Answers tally IsRight number items text old new r
+  answers_is : {O N : Type 0} (tally : Bool) (IsRight : ℕ → A → List ℕ → Type 0) (number : ℕ) (items : List A) (text : List A → List ℕ)
+      (old new : Outputs O N) (r q : Result (Unit {0}) Stop) → r ≡ q → Answers tally IsRight number items text old new r
       → Answers tally IsRight number items text old new q
   answers_is tally IsRight number items text old new r q e a =
       subst (λ (x : Result (Unit {0}) Stop). Answers tally IsRight number items text old new x) e a
 
-  pub answers_of : (tally : Bool) (IsRight : ℕ → A → List ℕ → Type 0) (number : ℕ) (items same : List A) (text : List A → List ℕ)
-      (old new : Outputs) (r : Result (Unit {0}) Stop) → items ≡ same → Answers tally IsRight number items text old new r
+  pub answers_of : {O N : Type 0} (tally : Bool) (IsRight : ℕ → A → List ℕ → Type 0) (number : ℕ) (items same : List A) (text : List A → List ℕ)
+      (old new : Outputs O N) (r : Result (Unit {0}) Stop) → items ≡ same → Answers tally IsRight number items text old new r
       → Answers tally IsRight number same text old new r
   answers_of tally IsRight number items same text old new r e a =
       subst (λ (x : List A). Answers tally IsRight number x text old new r) e a
 
   -- the error that a `?` hands on
-  pub answers_through : (tally : Bool) (IsRight : ℕ → A → List ℕ → Type 0) (number : ℕ) (items : List A) (text : List A → List ℕ)
-      (old new : Outputs) (r : Result (Unit {0}) Stop) (y : Stop) → IsErrAnd r (λ x. x ≡ y)
+  pub answers_through : {O N : Type 0} (tally : Bool) (IsRight : ℕ → A → List ℕ → Type 0) (number : ℕ) (items : List A) (text : List A → List ℕ)
+      (old new : Outputs O N) (r : Result (Unit {0}) Stop) (y : Stop) → IsErrAnd r (λ x. x ≡ y)
       → Answers tally IsRight number items text old new (Err y) → Answers tally IsRight number items text old new r
   answers_through tally IsRight number items text old new r y h a =
       let q = err_from_is_err_and r h in
@@ -335,15 +337,15 @@ module _ {A : Type 0} where
   -- ---- one statement after another
 
   -- a statement with another number
-  one_numbered : (tally : Bool) (IsRight : ℕ → A → List ℕ → Type 0) (n m : ℕ) (b : A) (one : ℕ → A → List ℕ)
-      (old new : Outputs) (r q : Result (Unit {0}) Stop) → n ≡ m → r ≡ q → AnswersOne tally IsRight n b (one n b) old new r
+  one_numbered : {O N : Type 0} (tally : Bool) (IsRight : ℕ → A → List ℕ → Type 0) (n m : ℕ) (b : A) (one : ℕ → A → List ℕ)
+      (old new : Outputs O N) (r q : Result (Unit {0}) Stop) → n ≡ m → r ≡ q → AnswersOne tally IsRight n b (one n b) old new r
       → AnswersOne tally IsRight m b (one m b) old new q
   one_numbered tally IsRight n m b one old new r q e f o =
       subst (λ (k : ℕ). AnswersOne tally IsRight k b (one k b) old new q) e
       (subst (λ (x : Result (Unit {0}) Stop). AnswersOne tally IsRight n b (one n b) old new x) f o)
 
-  pub answers_next : (tally : Bool) (IsRight : ℕ → A → List ℕ → Type 0) (number : ℕ) (one : ℕ → A → List ℕ) (all : ℕ → List A → List ℕ)
-      (items : List A) (i : ℕ) (x : A) (old mid new : Outputs) (r : Result (Unit {0}) Stop) → AreTexts one all
+  pub answers_next : {O N : Type 0} (tally : Bool) (IsRight : ℕ → A → List ℕ → Type 0) (number : ℕ) (one : ℕ → A → List ℕ) (all : ℕ → List A → List ℕ)
+      (items : List A) (i : ℕ) (x : A) (old mid new : Outputs O N) (r : Result (Unit {0}) Stop) → AreTexts one all
       → i < length items → x ≡ get_or items i x → Answers tally IsRight number (take i items) (all number) old mid (Ok tt)
       → AnswersOne tally IsRight (number + i) x (one (number + i) x) mid new r → r ≡ Ok tt
       → Answers tally IsRight number (take (i + 1) items) (all number) old new (Ok tt)
@@ -358,8 +360,8 @@ module _ {A : Type 0} where
       (answers_single tally IsRight m x (all m) (one m x) mid new (texts_one one all t m x)
       (one_numbered tally IsRight (number + i) m x one mid new r (Ok tt) (ap (λ (n : ℕ). number + n) (sym long)) e b)))
 
-  pub answers_stopped : (tally : Bool) (IsRight : ℕ → A → List ℕ → Type 0) (number : ℕ) (one : ℕ → A → List ℕ) (all : ℕ → List A → List ℕ)
-      (items : List A) (i : ℕ) (x : A) (old mid new : Outputs) (r : Result (Unit {0}) Stop) (y : Stop) → AreTexts one all
+  pub answers_stopped : {O N : Type 0} (tally : Bool) (IsRight : ℕ → A → List ℕ → Type 0) (number : ℕ) (one : ℕ → A → List ℕ) (all : ℕ → List A → List ℕ)
+      (items : List A) (i : ℕ) (x : A) (old mid new : Outputs O N) (r : Result (Unit {0}) Stop) (y : Stop) → AreTexts one all
       → i < length items → x ≡ get_or items i x → Answers tally IsRight number (take i items) (all number) old mid (Ok tt)
       → AnswersOne tally IsRight (number + i) x (one (number + i) x) mid new r → r ≡ Err y
       → Answers tally IsRight number items (all number) old new (Err y)
@@ -378,8 +380,8 @@ module _ {A : Type 0} where
       (one_numbered tally IsRight (number + i) m x one mid new r (Err y) (ap (λ (n : ℕ). number + n) (sym long)) e b)))
 
   -- a heading before all, and then the texts of all
-  pub answers_headed : (tally : Bool) (IsRight : ℕ → A → List ℕ → Type 0) (items : List A) (heading : List ℕ) (behind : List A → List ℕ)
-      (old mid new : Outputs) (q r : Result (Unit {0}) Stop) → q ≡ Ok tt → behind [] ≡ [] → mid.notes ≡ old.notes → Wrote old.out mid.out heading (of_output q)
+  pub answers_headed : {O N : Type 0} (tally : Bool) (IsRight : ℕ → A → List ℕ → Type 0) (items : List A) (heading : List ℕ) (behind : List A → List ℕ)
+      (old mid new : Outputs O N) (q r : Result (Unit {0}) Stop) → q ≡ Ok tt → behind [] ≡ [] → mid.notes ≡ old.notes → Wrote old.out mid.out heading (of_output q)
       → Answers tally IsRight 1 items behind mid new r
       → Answers tally IsRight 1 items (λ bs. heading ++ behind bs) old new r
   answers_headed tally IsRight items heading behind old mid new q r e none same w more =
@@ -390,8 +392,8 @@ module _ {A : Type 0} where
       (subst (λ (x : Result (Unit {0}) Stop). Wrote old.out mid.out heading (of_output x)) e w))
       (subst (λ (n : ℕ). Answers tally IsRight n items behind mid new r) number more)
 
-  pub answers_unheaded : (tally : Bool) (IsRight : ℕ → A → List ℕ → Type 0) (items : List A) (heading : List ℕ) (behind : List A → List ℕ)
-      (old new : Outputs) (r : Result (Unit {0}) Stop) (y : Stop) → r ≡ Err y → OnErr r (r ≡ Err stop.Output) → new.notes ≡ old.notes
+  pub answers_unheaded : {O N : Type 0} (tally : Bool) (IsRight : ℕ → A → List ℕ → Type 0) (items : List A) (heading : List ℕ) (behind : List A → List ℕ)
+      (old new : Outputs O N) (r : Result (Unit {0}) Stop) (y : Stop) → r ≡ Err y → OnErr r (r ≡ Err stop.Output) → new.notes ≡ old.notes
       → Wrote old.out new.out heading (of_output r) → Answers tally IsRight 1 items (λ bs. heading ++ behind bs) old new (Err y)
   answers_unheaded tally IsRight items heading behind old new (Ok x) y e h same w = absurd cc
   answers_unheaded tally IsRight items heading behind old new (Err z) y e h same w =
@@ -408,7 +410,7 @@ module _ {A : Type 0} where
           are = AreLines-none tally IsRight 1;
           end' = record {
             put = put_none old.notes new.notes same;
-            counts = omega (arith, ap (λ (s : Sink). s.faults) same);
+            counts = omega (arith, same_faults old.notes new.notes same);
             took = took_front (λ bs. heading ++ behind bs) items heading (behind (take 1 items)) old.out new.out refl v.front (v.failed refl);
           };
           quiet = λ q. same;

@@ -20,7 +20,6 @@ use Rattle.group_sink.specs.Lines.{lines_text}
 use Rattle.group_sink.specs.declared.line.Line.{Line}
 use Rattle.group_sink.specs.declared.line.Out.{Out}
 use Rattle.result_sink.proofs.TextLemmas.{AddsPart-after}
-use Rattle.outside.specs.Faults.{NeverFalls}
 use Rattle.outside.specs.Told.{Adds}
 use Rattle.outside.proofs.Laws.{Adds-nothing, Adds-twice, AddsFront-whole}
 use Rattle.result_sink.specs.declared.fault.WriteFault.TheVariants as write
@@ -66,57 +65,65 @@ line_none {room} gives number item = record { right = refl; none = λ q. refl }
 -- ---- one statement
 
 -- the error that a `?` hands on
-pub one_through : {A : Type 0} (tally : Bool) (IsRight : ℕ → A → List ℕ → Type 0) (number : ℕ) (block : A) (text : List ℕ)
-    (old new : Outputs) (r : Result (Unit {0}) Stop) (y : Stop) → IsErrAnd r (λ x. x ≡ y)
+pub one_through : {A O N : Type 0} (tally : Bool) (IsRight : ℕ → A → List ℕ → Type 0) (number : ℕ) (block : A) (text : List ℕ)
+    (old new : Outputs O N) (r : Result (Unit {0}) Stop) (y : Stop) → IsErrAnd r (λ x. x ≡ y)
     → AnswersOne tally IsRight number block text old new (Err y) → AnswersOne tally IsRight number block text old new r
 one_through tally IsRight number block text old new r y h a =
     let q = err_from_is_err_and r h in
     subst (λ (x : Result (Unit {0}) Stop). AnswersOne tally IsRight number block text old new x) (sym (q.1 ∙ ap Err q.2)) a
 
 -- a text that was put whole, and then a line
-pub put_line_behind : (text : List ℕ) (line : Option (List ℕ)) (old new : Outputs) (r : Result (Unit {0}) Stop)
-    → NeverFalls old.out.faults new.out.faults → Adds old.out.written new.out.written text → OnErr r (r ≡ Err stop.Notes)
+pub put_line_behind : {O N : Type 0} (text : List ℕ) (line : Option (List ℕ)) (old new : Outputs O N) (r : Result (Unit {0}) Stop)
+    → new.out.faults ≡ old.out.faults → Adds old.out.written new.out.written text → OnErr r (r ≡ Err stop.Notes)
     → Lined line old.notes new.notes r → PutBoth text line old new r
-put_line_behind text line old new (Ok x) counts put only l = record {
-  out = record { counts = counts; ok = put; failed = λ e. absurd cc; front = tt };
+put_line_behind text line old new (Ok x) kept put only l = record {
+  out = record { counts = omega (arith, kept); ok = put; kept = kept; failed = λ e. absurd cc; front = tt };
   whole = λ e. absurd cc;
+  kept = λ e. kept;
   short = λ e. absurd cc;
   notes = l;
 }
-put_line_behind text line old new (Err stop.Notes) counts put only l = record {
-  out = record { counts = counts; ok = tt; failed = λ e. absurd cc; front = AddsFront-whole old.out.written new.out.written text put };
+put_line_behind text line old new (Err stop.Notes) kept put only l = record {
+  out = record {
+    counts = omega (arith, kept);
+    ok = tt;
+    kept = tt;
+    failed = λ e. absurd cc;
+    front = AddsFront-whole old.out.written new.out.written text put;
+  };
   whole = λ e. put;
+  kept = λ e. kept;
   short = λ e. absurd cc;
   notes = l;
 }
-put_line_behind text line old new (Err stop.Output) counts put only l = absurd cc
-put_line_behind text line old new (Err stop.Memory) counts put only l = absurd cc
+put_line_behind text line old new (Err stop.Output) kept put only l = absurd cc
+put_line_behind text line old new (Err stop.Memory) kept put only l = absurd cc
 
 -- a text that the output didn't take
-pub put_refused : (text : List ℕ) (line : Option (List ℕ)) (old new : Outputs) → new.notes ≡ old.notes
+pub put_refused : {O N : Type 0} (text : List ℕ) (line : Option (List ℕ)) (old new : Outputs O N) → new.notes ≡ old.notes
     → Wrote old.out new.out text {A = Unit {0}} (Err write.Failed) → PutBoth text line old new (Err stop.Output)
-put_refused text line old new same w = record { out = w; whole = λ e. absurd cc; short = λ e. absurd cc; notes = same }
+put_refused text line old new same w = record { out = w; whole = λ e. absurd cc; kept = λ e. absurd cc; short = λ e. absurd cc; notes = same }
 
 -- a text of which not all was put, for want of memory
-pub put_wanting : (text : List ℕ) (line : Option (List ℕ)) (old new : Outputs) → new.notes ≡ old.notes
+pub put_wanting : {O N : Type 0} (text : List ℕ) (line : Option (List ℕ)) (old new : Outputs O N) → new.notes ≡ old.notes
     → Wrote old.out new.out text {A = Unit {0}} (Err write.Memory) → AddsPart old.out.written new.out.written text
     → PutBoth text line old new (Err stop.Memory)
-put_wanting text line old new same w part = record { out = w; whole = λ e. absurd cc; short = λ e. part; notes = same }
+put_wanting text line old new same w part = record { out = w; whole = λ e. absurd cc; kept = λ e. absurd cc; short = λ e. part; notes = same }
 
 -- the same of an equal text
-pub put_text : (text other : List ℕ) (line : Option (List ℕ)) (old new : Outputs) (r : Result (Unit {0}) Stop) → text ≡ other
+pub put_text : {O N : Type 0} (text other : List ℕ) (line : Option (List ℕ)) (old new : Outputs O N) (r : Result (Unit {0}) Stop) → text ≡ other
     → PutBoth text line old new r → PutBoth other line old new r
 put_text text other line old new r e h = subst (λ (x : List ℕ). PutBoth x line old new r) e h
 
 -- the text of equal combinations
-pub put_rows : (block : Block) (tables : List Relation) (xs ys : List Combo) (line : Option (List ℕ)) (old new : Outputs) (r : Result (Unit {0}) Stop)
+pub put_rows : {O N : Type 0} (block : Block) (tables : List Relation) (xs ys : List Combo) (line : Option (List ℕ)) (old new : Outputs O N) (r : Result (Unit {0}) Stop)
     → xs ≡ ys → PutBoth (answer_text block tables (map (rows_of_combo block) xs)) line old new r
     → PutBoth (answer_text block tables (map (rows_of_combo block) ys)) line old new r
 put_rows block tables xs ys line old new r e h =
     subst (λ (cs : List Combo). PutBoth (answer_text block tables (map (rows_of_combo block) cs)) line old new r) e h
 
 -- the text of equal lines
-pub put_lines : (shape : Shape) (xs ys : List Line) (line : Option (List ℕ)) (old new : Outputs) (r : Result (Unit {0}) Stop) → xs ≡ ys
+pub put_lines : {O N : Type 0} (shape : Shape) (xs ys : List Line) (line : Option (List ℕ)) (old new : Outputs O N) (r : Result (Unit {0}) Stop) → xs ≡ ys
     → PutBoth (lines_text shape (map (λ (l : Line). l.cells) xs)) line old new r → PutBoth (lines_text shape (map (λ (l : Line). l.cells) ys)) line old new r
 put_lines shape xs ys line old new r e h =
     subst (λ (ls : List Line). PutBoth (lines_text shape (map (λ (l : Line). l.cells) ls)) line old new r) e h
@@ -129,15 +136,15 @@ told_anyway (Err stop.Notes) h = h
 told_anyway (Err stop.Memory) h = tt
 
 -- the text and the line of what was found
-pub one_put : {A : Type 0} (tally : Bool) (IsRight : ℕ → A → List ℕ → Type 0) (number : ℕ) (block : A) (text other : List ℕ) (line : Option (List ℕ))
-    (old new : Outputs) (r : Result (Unit {0}) Stop) → text ≡ other → IsLineFor tally IsRight number block line
+pub one_put : {A O N : Type 0} (tally : Bool) (IsRight : ℕ → A → List ℕ → Type 0) (number : ℕ) (block : A) (text other : List ℕ) (line : Option (List ℕ))
+    (old new : Outputs O N) (r : Result (Unit {0}) Stop) → text ≡ other → IsLineFor tally IsRight number block line
     → PutBoth text line old new r → AnswersOne tally IsRight number block other old new r
 one_put tally IsRight number block text other line old new r e right h =
     record { line = line; right = told_anyway r right; put = put_text text other line old new r e h }
 
 -- the same of the rows of the answer
-pub one_found : {room : ℕ} (tally : Bool) (gives : Gives) (number : ℕ) (item : Item) (rows : List (List ℕ)) (line : Option (List ℕ))
-    (old new : Outputs) (r : Result (Unit {0}) Stop) → rows ≡ answer_rows gives item → IsLineFor tally (IsTally room gives) number item line
+pub one_found : {room : ℕ} {O N : Type 0} (tally : Bool) (gives : Gives) (number : ℕ) (item : Item) (rows : List (List ℕ)) (line : Option (List ℕ))
+    (old new : Outputs O N) (r : Result (Unit {0}) Stop) → rows ≡ answer_rows gives item → IsLineFor tally (IsTally room gives) number item line
     → PutBoth (answer_text item.bound.block item.tables rows) line old new r
     → AnswersOne tally (IsTally room gives) number item (plain_text gives item) old new r
 one_found {room} tally gives number item rows line old new r e right h =
@@ -145,8 +152,8 @@ one_found {room} tally gives number item rows line old new r e right h =
     (ap (λ (x : List (List ℕ)). answer_text item.bound.block item.tables x) e) right h
 
 -- the same of the lines of a shape
-pub one_made : {room : ℕ} (tally : Bool) (gives : Gives) (number : ℕ) (item : Item) (shape : Shape) (lines : List (List Out)) (line : Option (List ℕ))
-    (old new : Outputs) (r : Result (Unit {0}) Stop) → lines ≡ answer_lines gives item shape → IsLineFor tally (IsTally room gives) number item line
+pub one_made : {room : ℕ} {O N : Type 0} (tally : Bool) (gives : Gives) (number : ℕ) (item : Item) (shape : Shape) (lines : List (List Out)) (line : Option (List ℕ))
+    (old new : Outputs O N) (r : Result (Unit {0}) Stop) → lines ≡ answer_lines gives item shape → IsLineFor tally (IsTally room gives) number item line
     → PutBoth (lines_text shape lines) line old new r
     → AnswersOne tally (IsTally room gives) number item (shaped_text gives item shape) old new r
 one_made {room} tally gives number item shape lines line old new r e right h =
@@ -154,14 +161,14 @@ one_made {room} tally gives number item shape lines line old new r e right h =
     (ap (lines_text shape) e) right h
 
 -- the text of an answer is that of its shape
-pub one_by : {room : ℕ} (tally : Bool) (gives : Gives) (number : ℕ) (item : Item) (shape : Option Shape) (old new : Outputs) (r : Result (Unit {0}) Stop)
+pub one_by : {room : ℕ} {O N : Type 0} (tally : Bool) (gives : Gives) (number : ℕ) (item : Item) (shape : Option Shape) (old new : Outputs O N) (r : Result (Unit {0}) Stop)
     → item.bound.shape ≡ shape → AnswersOne tally (IsTally room gives) number item (text_by gives item shape) old new r
     → AnswersOne tally (IsTally room gives) number item (item_text gives item) old new r
 one_by {room} tally gives number item shape old new r e h =
     subst (λ (s : Option Shape). AnswersOne tally (IsTally room gives) number item (text_by gives item s) old new r) (sym e) h
 
 -- want of memory, before anything of a text was put
-pub one_unfound : {A : Type 0} (tally : Bool) (IsRight : ℕ → A → List ℕ → Type 0) (number : ℕ) (item : A) (text : List ℕ) (old : Outputs) → text ≢ []
+pub one_unfound : {A O N : Type 0} (tally : Bool) (IsRight : ℕ → A → List ℕ → Type 0) (number : ℕ) (item : A) (text : List ℕ) (old : Outputs O N) → text ≢ []
     → AnswersOne tally IsRight number item text old old (Err stop.Memory)
 one_unfound tally IsRight number item text old some = record {
   line = None;
@@ -170,25 +177,26 @@ one_unfound tally IsRight number item text old some = record {
 }
 
 -- a text before that of a statement: the output took it, or didn't
-pub one_behind : {A : Type 0} (tally : Bool) (IsRight : ℕ → A → List ℕ → Type 0) (number : ℕ) (item : A) (first second : List ℕ)
-    (old mid new : Outputs) (q r : Result (Unit {0}) Stop) → q ≡ Ok tt → mid.notes ≡ old.notes → Wrote old.out mid.out first (of_output q)
+pub one_behind : {A O N : Type 0} (tally : Bool) (IsRight : ℕ → A → List ℕ → Type 0) (number : ℕ) (item : A) (first second : List ℕ)
+    (old mid new : Outputs O N) (q r : Result (Unit {0}) Stop) → q ≡ Ok tt → mid.notes ≡ old.notes → Wrote old.out mid.out first (of_output q)
     → AnswersOne tally IsRight number item second mid new r
     → AnswersOne tally IsRight number item (first ++ second) old new r
-one_behind tally IsRight number item first second old mid new q r e same v a = record {
+one_behind {N = N} tally IsRight number item first second old mid new q r e same v a = record {
   line = a.line;
   right = a.right;
   put = record {
     out = wrote_behind old.out mid.out new.out first second (of_output r) w a.put.out;
     whole = λ f. Adds-twice old.out.written mid.out.written new.out.written first second w.ok (a.put.whole f);
+    kept = λ f. a.put.kept f ∙ w.kept;
     short = λ f. AddsPart-after old.out.written mid.out.written new.out.written first second w.ok (a.put.short f);
-    notes = subst (λ (s : Sink). Lined a.line s new.notes r) same a.put.notes;
+    notes = subst (λ (s : Sink N). Lined a.line s new.notes r) same a.put.notes;
   };
 }
   where
     w : Wrote old.out mid.out first {A = Unit {0}} (Ok tt)
     w = subst (λ (x : Result (Unit {0}) Stop). Wrote old.out mid.out first (of_output x)) e v
 
-pub one_unwritten : {A : Type 0} (tally : Bool) (IsRight : ℕ → A → List ℕ → Type 0) (number : ℕ) (item : A) (first second : List ℕ) (old new : Outputs)
+pub one_unwritten : {A O N : Type 0} (tally : Bool) (IsRight : ℕ → A → List ℕ → Type 0) (number : ℕ) (item : A) (first second : List ℕ) (old new : Outputs O N)
     (r : Result (Unit {0}) Stop) (y : Stop) → r ≡ Err y → OnErr r (r ≡ Err stop.Output) → new.notes ≡ old.notes → Wrote old.out new.out first (of_output r)
     → AnswersOne tally IsRight number item (first ++ second) old new (Err y)
 one_unwritten tally IsRight number item first second old new (Ok x) y e h same w = absurd cc

@@ -29,15 +29,15 @@ text_of-behind : (gives : Gives) (b : Item) (zs : List Item)
 unfolding text_of
 text_of-behind gives b zs = refl
 
-pub answers_none : {room : ℕ} (tally : Bool) (gives : Gives) (items : List Item) (old : Outputs) → length items ≡ 0
+pub answers_none : {room : ℕ} {O N : Type 0} (tally : Bool) (gives : Gives) (items : List Item) (old : Outputs O N) → length items ≡ 0
     → Answers tally (IsTally room gives) 1 items (text_of gives) old old (Ok tt)
 unfolding text_of
 answers_none {room} tally gives [] old e = answers_nothing tally (IsTally room gives) 1 (text_of gives) old refl
 answers_none {room} tally gives (b ∷ bs) old e = absurd (omega (arith, e))
 
 -- the first statement, and those behind it
-pub answers_all : {room : ℕ} (tally : Bool) (gives : Gives) (items : List Item) (b : Item) (bs : List Item)
-    (old mid new : Outputs) (q r : Result (Unit {0}) Stop) → items ≡ b ∷ bs → q ≡ Ok tt
+pub answers_all : {room : ℕ} {O N : Type 0} (tally : Bool) (gives : Gives) (items : List Item) (b : Item) (bs : List Item)
+    (old mid new : Outputs O N) (q r : Result (Unit {0}) Stop) → items ≡ b ∷ bs → q ≡ Ok tt
     → AnswersOne tally (IsTally room gives) 1 b (item_text gives b) old mid q
     → Answers tally (IsTally room gives) 2 bs (flat_map (behind_line gives)) mid new r
     → Answers tally (IsTally room gives) 1 items (text_of gives) old new r
@@ -52,8 +52,8 @@ answers_all {room} tally gives items b bs old mid new q r e ok first more =
     (answers_single tally (IsTally room gives) 1 b (text_of gives) (item_text gives b) old mid (text_of-first gives b) given)
     (subst (λ (n : ℕ). Answers tally (IsTally room gives) n bs (flat_map (behind_line gives)) mid new r) number more))
 
-pub answers_first : {room : ℕ} (tally : Bool) (gives : Gives) (items : List Item) (b : Item) (bs : List Item)
-    (old new : Outputs) (q : Result (Unit {0}) Stop) (y : Stop) → items ≡ b ∷ bs → q ≡ Err y
+pub answers_first : {room : ℕ} {O N : Type 0} (tally : Bool) (gives : Gives) (items : List Item) (b : Item) (bs : List Item)
+    (old new : Outputs O N) (q : Result (Unit {0}) Stop) (y : Stop) → items ≡ b ∷ bs → q ≡ Err y
     → AnswersOne tally (IsTally room gives) 1 b (item_text gives b) old new q
     → Answers tally (IsTally room gives) 1 items (text_of gives) old new (Err y)
 answers_first {room} tally gives items b bs old new q y e stopped first =

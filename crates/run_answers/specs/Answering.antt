@@ -27,28 +27,29 @@ of_output (Err stop.Notes) = Err write.Memory
 of_output (Err stop.Memory) = Err write.Memory
 
 -- a fault of the notes came at the line of the next statement, whose text was put, behind the lines of those before
-pub record BrokeOff {A : Type 0} (IsRight : ℕ → A → List ℕ → Type 0) (number : ℕ)
-    (text : List A → List ℕ) (finished left : List A) (lines : List ℕ) (old new : Outputs)
+pub record BrokeOff {A O N : Type 0} (IsRight : ℕ → A → List ℕ → Type 0) (number : ℕ)
+    (text : List A → List ℕ) (finished left : List A) (lines : List ℕ) (old new : Outputs O N)
     : Type 0 where
   pub next : A
   pub rest : List A
   pub is : left ≡ next ∷ rest
   pub whole : Adds old.out.written new.out.written (text (finished ++ next ∷ []))
+  pub kept : new.out.faults ≡ old.out.faults
   pub line : List ℕ
   pub right : IsRight (number + length finished) next line
   pub front : AddsFrontBehind old.notes.written new.notes.written lines line
   pub rose : RoseOrFull old.notes.faults new.notes.faults
 
 -- the lines of finished statements were put, and so much of all texts
-pub record LinesPut {A : Type 0} (text : List A → List ℕ) (finished left : List A) (lines : List ℕ)
-    (old new : Outputs) : Type 0 where
+pub record LinesPut {A O N : Type 0} (text : List A → List ℕ) (finished left : List A) (lines : List ℕ)
+    (old new : Outputs O N) : Type 0 where
   pub put : Adds old.notes.written new.notes.written lines
   pub counts : NeverFalls old.notes.faults new.notes.faults
   pub took : TookSoFar text finished left old.out new.out
 
 -- how the statements of a step ended, the first of them finished
-abbrev pub EndsSo : {A : Type 0} → Bool → (ℕ → A → List ℕ → Type 0) → ℕ → (List A → List ℕ) → List A
-    → List A → List ℕ → Outputs → Outputs → Result (Unit {0}) Stop → Type 0
+abbrev pub EndsSo : {A O N : Type 0} → Bool → (ℕ → A → List ℕ → Type 0) → ℕ → (List A → List ℕ) → List A
+    → List A → List ℕ → Outputs O N → Outputs O N → Result (Unit {0}) Stop → Type 0
 EndsSo tally IsRight number text finished left lines old new (Ok x) =
     LinesPut text finished left lines old new × (left ≡ []) × (new.notes.faults ≡ old.notes.faults)
 EndsSo tally IsRight number text finished left lines old new (Err stop.Notes) =
@@ -59,8 +60,8 @@ EndsSo tally IsRight number text finished left lines old new (Err stop.Memory) =
     LinesPut text finished left lines old new
 
 -- the first of these statements are finished, the first of all with this number, and their lines were put
-pub record Tallied {A : Type 0} (tally : Bool) (IsRight : ℕ → A → List ℕ → Type 0) (number : ℕ)
-    (items : List A) (text : List A → List ℕ) (old new : Outputs) (r : Result (Unit {0}) Stop)
+pub record Tallied {A O N : Type 0} (tally : Bool) (IsRight : ℕ → A → List ℕ → Type 0) (number : ℕ)
+    (items : List A) (text : List A → List ℕ) (old new : Outputs O N) (r : Result (Unit {0}) Stop)
     : Type 0 where
   pub finished : List A
   pub left : List A
@@ -71,8 +72,8 @@ pub record Tallied {A : Type 0} (tally : Bool) (IsRight : ℕ → A → List ℕ
   pub quiet : tally ≡ false → new.notes ≡ old.notes
 
 -- the text of these statements was put, or a front of it, and the lines of those that are finished
-pub record Answers {A : Type 0} (tally : Bool) (IsRight : ℕ → A → List ℕ → Type 0) (number : ℕ)
-    (items : List A) (text : List A → List ℕ) (old new : Outputs) (r : Result (Unit {0}) Stop)
+pub record Answers {A O N : Type 0} (tally : Bool) (IsRight : ℕ → A → List ℕ → Type 0) (number : ℕ)
+    (items : List A) (text : List A → List ℕ) (old new : Outputs O N) (r : Result (Unit {0}) Stop)
     : Type 0 where
   pub out : Wrote old.out new.out (text items) (of_output r)
   pub notes : Tallied tally IsRight number items text old new r
@@ -94,7 +95,7 @@ pub record IsFound (room : ℕ) (tally : Bool) (gives : ℕ → Value → Value 
   pub line : IsLineFor tally (IsTally room gives) number item (option_map string_bytes f.line)
 
 -- a line was put, or a front of it, or nothing
-abbrev pub Lined : Option (List ℕ) → Sink → Sink → Result (Unit {0}) Stop → Type 0
+abbrev pub Lined : {S : Type 0} → Option (List ℕ) → Sink S → Sink S → Result (Unit {0}) Stop → Type 0
 Lined line old new (Ok x) =
     Wrote old new (line_bytes line) {A = Unit {0}} (Ok tt) × (new.faults ≡ old.faults) × (line ≡ None → new ≡ old)
 Lined line old new (Err stop.Notes) =
@@ -103,10 +104,11 @@ Lined line old new (Err stop.Output) = new ≡ old
 Lined line old new (Err stop.Memory) = new ≡ old
 
 -- a text was put, and then a line: the text is whole where the line failed, and isn't where memory was wanting
-pub record PutBoth (text : List ℕ) (line : Option (List ℕ)) (old new : Outputs)
+pub record PutBoth {O N : Type 0} (text : List ℕ) (line : Option (List ℕ)) (old new : Outputs O N)
     (r : Result (Unit {0}) Stop) : Type 0 where
   pub out : Wrote old.out new.out text (of_output r)
   pub whole : r ≡ Err stop.Notes → Adds old.out.written new.out.written text
+  pub kept : r ≡ Err stop.Notes → new.out.faults ≡ old.out.faults
   pub short : r ≡ Err stop.Memory → AddsPart old.out.written new.out.written text
   pub notes : Lined line old.notes new.notes r
 
@@ -117,8 +119,8 @@ OnTold (Err stop.Notes) P = P
 OnTold (Err _) P = ⊤
 
 -- the text of one statement was put, and then its line
-pub record AnswersOne {A : Type 0} (tally : Bool) (IsRight : ℕ → A → List ℕ → Type 0) (number : ℕ)
-    (item : A) (text : List ℕ) (old new : Outputs) (r : Result (Unit {0}) Stop) : Type 0 where
+pub record AnswersOne {A O N : Type 0} (tally : Bool) (IsRight : ℕ → A → List ℕ → Type 0) (number : ℕ)
+    (item : A) (text : List ℕ) (old new : Outputs O N) (r : Result (Unit {0}) Stop) : Type 0 where
   pub line : Option (List ℕ)
   pub right : OnTold r (IsLineFor tally IsRight number item line)
   pub put : PutBoth text line old new r

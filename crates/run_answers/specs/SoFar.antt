@@ -10,7 +10,8 @@ IsFront front text = (rest : List ℕ) × (text ≡ front ++ rest)
 
 -- a sink took the whole text of finished statements, and of those that are left a front of the next one's; where its
 -- count of faults didn't rise, that one's text isn't whole
-pub record TookSoFar {A : Type 0} (text : List A → List ℕ) (finished left : List A) (before now : Sink) : Type 0 where
+pub record TookSoFar {A S : Type 0} (text : List A → List ℕ) (finished left : List A) (before now : Sink S)
+    : Type 0 where
   pub added : List ℕ
   pub adds : Adds before.written now.written added
   pub whole : finished ≢ [] → IsFront (text finished) added

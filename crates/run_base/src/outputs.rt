@@ -14,10 +14,10 @@ impl<O: Sink, N: Sink> Model for Outputs<O, N> {
     ghost use Rattle.run_base.specs.Seen.{sink_seen};
     ghost use Rattle.run_base.specs.Seen as seen;
 
-    ghost Value = { seen.Outputs };
+    ghost Value = { seen.Outputs O N };
 
     ghost view = { λ a. record {
-      out = sink_seen (O.written a.out) (O.faults a.out);
-      notes = sink_seen (N.written a.notes) (N.faults a.notes);
+      out = sink_seen a.out (O.written a.out) (O.faults a.out);
+      notes = sink_seen a.notes (N.written a.notes) (N.faults a.notes);
     } };
 }

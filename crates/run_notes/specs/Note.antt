@@ -111,15 +111,14 @@ unfoldable pub line_of : List (List ℕ) → Status → List ℕ
 line_of names s = note names s ++ 10 ∷ []
 
 -- a sink has a line more, or a front of it where its count rose
-abbrev pub IsNoted : Sink → Sink → List ℕ → Type 0
+abbrev pub IsNoted : {S : Type 0} → Sink S → Sink S → List ℕ → Type 0
 IsNoted before now line =
     Adds before.written now.written line
     ⊎ (RoseOrFull before.faults now.faults × AddsFront before.written now.written line)
 
 -- what a run over tables of these names puts to the notes where it would end by a status: nothing where it is done, and
 -- else the line of the status that it ends by, which is that one or want of memory
-pub record NotesOf (names : List (List ℕ)) (before now : Sink) (s ended : Status) : Type 0 where
+pub record NotesOf {S : Type 0} (names : List (List ℕ)) (before now : Sink S) (s ended : Status) : Type 0 where
   pub either : (ended ≡ s) ⊎ (ended ≡ status.Memory)
-  pub silent : ended ≡ status.Done → now.written ≡ before.written
-  pub silent_count : ended ≡ status.Done → now.faults ≡ before.faults
+  pub silent : ended ≡ status.Done → now ≡ before
   pub noted : ended ≢ status.Done → IsNoted before now (line_of names ended)

@@ -253,8 +253,8 @@ fn line_of(alloc: Global, tables: &[TableWord], status: Status) -> Result<String
 
 // One put of a line. A fault of the notes changes nothing else.
 fn put_line<N: Sink>(line: &[u8], notes: &mut N)
-    ensures { IsNoted (sink_seen (N.written notes.old) (N.faults notes.old))
-        (sink_seen (N.written notes.new) (N.faults notes.new)) line.now }
+    ensures { IsNoted (sink_seen notes.old (N.written notes.old) (N.faults notes.old))
+        (sink_seen notes.new (N.written notes.new) (N.faults notes.new)) line.now }
 {
     let _ = notes.put(line);
 }
@@ -267,8 +267,8 @@ fn put_refusal<N: Sink>(
     notes: &mut N,
 ) -> Status
     ensures either { (result ≡ status) ⊎ (result ≡ Status.Memory) }
-    ensures noted { IsNoted (sink_seen (N.written notes.old) (N.faults notes.old))
-        (sink_seen (N.written notes.new) (N.faults notes.new)) (line_of (names_of tables.now) result) }
+    ensures noted { IsNoted (sink_seen notes.old (N.written notes.old) (N.faults notes.old))
+        (sink_seen notes.new (N.written notes.new) (N.faults notes.new)) (line_of (names_of tables.now) result) }
 {
     match line_of(alloc, tables, status) {
         Ok(line) => {
@@ -290,8 +290,8 @@ pub fn put_note<N: Sink>(
     status: Status,
     notes: &mut N,
 ) -> Status
-    ensures { NotesOf (names_of tables.now) (sink_seen (N.written notes.old) (N.faults notes.old))
-        (sink_seen (N.written notes.new) (N.faults notes.new)) status result }
+    ensures { NotesOf (names_of tables.now) (sink_seen notes.old (N.written notes.old) (N.faults notes.old))
+        (sink_seen notes.new (N.written notes.new) (N.faults notes.new)) status result }
 {
     if status == Status::Done {
         return status;

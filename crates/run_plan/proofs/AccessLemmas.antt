@@ -167,12 +167,30 @@ pub accesses_ok : (tables : List Relation) (asked : List AccessWord) → first_l
 unfolding accesses_read
 accesses_ok tables asked e = sym (ap (λ (o : Option ℕ). unless_lacking o (accesses_to tables asked)) e)
 
+-- an access that lacks its column is one of those that were asked for
+lacking_within : (tables : List Relation) (number : ℕ) (asked : List AccessWord) (access : ℕ) → first_lacking tables number asked ≡ Some access
+    → (number ≤ access) × (access < number + length asked)
+unfolding first_lacking
+lacking_within tables number [] access e = absurd cc
+lacking_within tables number (a ∷ more) access e =
+    by (lacking_within tables (number + 1) more access) (is_some (column_asked tables a)) e
+  where
+    by : (first_lacking tables (number + 1) more ≡ Some access → (number + 1 ≤ access) × (access < (number + 1) + length more)) → (b : Bool)
+        → cond b (first_lacking tables (number + 1) more) (Some number) ≡ Some access → (number ≤ access) × (access < number + length (a ∷ more))
+    by rest true f = let k = rest f in (omega (arith, k.0), omega (arith, k.1))
+    by rest false f = let same : number ≡ access = cc in (omega (arith, same), omega (arith, same))
+
 pub accesses_refused : (tables : List Relation) (asked : List AccessWord) (access : ℕ) → first_lacking tables 1 asked ≡ Some access
-    → Refuses (ComesTo (accesses_read tables asked) (Err (status.NoColumn access))) (status.NoColumn access)
+    → Refuses 0 (length asked) (ComesTo (accesses_read tables asked) (Err (status.NoColumn access))) (status.NoColumn access)
 unfolding accesses_read
 accesses_refused tables asked access e = record {
   may = sym (ap (λ (o : Option ℕ). unless_lacking o (accesses_to tables asked)) e);
-  early = record { between = tt; founded = tt; placed = tt };
+  early = record {
+    between = tt;
+    founded = tt;
+    placed = tt;
+    named = let within = lacking_within tables 1 asked access e in record { file = tt; access = (within.0, omega (arith, within.1)) };
+  };
 }
 
 -- ---- the access that names a table

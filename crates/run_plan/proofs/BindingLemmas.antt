@@ -31,40 +31,40 @@ apart_limit e = cc
 
 -- the refusal of a script's fault
 pub refuses_script : (text : List ℕ) (fault : ParseFault) → (fault ≢ parse.Memory → IsScriptFault text fault)
-    → Refuses (IsSpelled text (Err (script_status fault))) (script_status fault)
+    → Refuses 0 0 (IsSpelled text (Err (script_status fault))) (script_status fault)
 refuses_script text fault h = by (parse_sort fault) refl
   where
     due : parse_sort fault ≢ NoMemory → IsSpelled text (Err (script_status fault))
     due f = (Err fault, h (λ (e : fault ≡ parse.Memory). f (ap parse_sort e)), refl)
 
-    by : (s : Sort) → parse_sort fault ≡ s → Refuses (IsSpelled text (Err (script_status fault))) (by_sort s (status.Script fault) (status.Limit (limit.Parse fault)))
+    by : (s : Sort) → parse_sort fault ≡ s → Refuses 0 0 (IsSpelled text (Err (script_status fault))) (by_sort s (status.Script fault) (status.Limit (limit.Parse fault)))
     by Plain e = record {
       may = due (λ (x : parse_sort fault ≡ NoMemory). apart_plain (sym e ∙ x));
-      early = record { between = tt; founded = tt; placed = e };
+      early = record { between = tt; founded = tt; placed = e; named = record { file = tt; access = tt } };
     }
     by PastLimit e = record {
       may = due (λ (x : parse_sort fault ≡ NoMemory). apart_limit (sym e ∙ x));
-      early = record { between = tt; founded = tt; placed = e };
+      early = record { between = tt; founded = tt; placed = e; named = record { file = tt; access = tt } };
     }
     by NoMemory e = refuses_memory _
 
 -- the refusal of a statement's fault
 pub refuses_statement : (scope : Scope) (number : ℕ) (s : Statement) (fault : BindFault) → (fault ≢ bind.Memory → binding.IsBindFault scope s fault)
-    → Refuses (IsBoundTo scope number s (Err (bind_status number fault))) (bind_status number fault)
+    → Refuses 0 0 (IsBoundTo scope number s (Err (bind_status number fault))) (bind_status number fault)
 refuses_statement scope number s fault h = by (bind_sort fault) refl
   where
     due : bind_sort fault ≢ NoMemory → IsBoundTo scope number s (Err (bind_status number fault))
     due f = (fault, h (λ (e : fault ≡ bind.Memory). f (ap bind_sort e)), refl)
 
     by : (x : Sort) → bind_sort fault ≡ x
-        → Refuses (IsBoundTo scope number s (Err (bind_status number fault))) (by_sort x (status.Bind number fault) (status.Limit (limit.Bind number fault)))
+        → Refuses 0 0 (IsBoundTo scope number s (Err (bind_status number fault))) (by_sort x (status.Bind number fault) (status.Limit (limit.Bind number fault)))
     by Plain e = record {
       may = due (λ (x : bind_sort fault ≡ NoMemory). apart_plain (sym e ∙ x));
-      early = record { between = tt; founded = tt; placed = e };
+      early = record { between = tt; founded = tt; placed = e; named = record { file = tt; access = tt } };
     }
     by PastLimit e = record {
       may = due (λ (x : bind_sort fault ≡ NoMemory). apart_limit (sym e ∙ x));
-      early = record { between = tt; founded = tt; placed = e };
+      early = record { between = tt; founded = tt; placed = e; named = record { file = tt; access = tt } };
     }
     by NoMemory e = refuses_memory _
 

@@ -1,9 +1,11 @@
 -- Files that are loaded, and the tables of words, in order.
-use Rattle.std.proofs.Common.{◌≡◌, ◌≢◌, ℕ, suc, ◌+◌, ◌<◌, ◌≤◌, Bool, cond, List, [], ◌∷◌, ◌++◌, length, take, drop, get_or, Option, Some, None, Result, Ok, Err, refl, sym, ◌∙◌, ap, subst, ◌⊎◌, inl, inr, arith}
+use Rattle.std.proofs.Common.{◌≡◌, ◌≢◌, ℕ, suc, ◌+◌, ◌<◌, ◌≤◌, Bool, cond, List, [], ◌∷◌, ◌++◌, length, take, drop, get_or, Option, Some, None, Result, Ok, Err, refl, sym, ◌∙◌, ap, subst, ◌⊎◌, inl, inr, arith, append_assoc}
 use Rattle.std.specs.Prelude.{option_map, map, IsSome, IsOk}
-use Rattle.std.proofs.lemmas.List.{take_all, take_more, drop_more, take-append-drop, length-take, length-take-le, map-append}
+use Rattle.std.proofs.lemmas.List.{take_all, take_more, take-append-drop, length-append, length-map, length-take, length-take-le, map-append}
+use Rattle.std.proofs.Math.Seq.{take-append_seam}
 use Rattle.std.proofs.lemmas.Bool.{lt-ltb, le-ltb, cases_lt}
 use Rattle.outside.specs.Files.{File, lookup, Gives as Loads, Lacks}
+use Rattle.run_plan.specs.Given.{IsFileGiven, AreFilesGiven}
 use Rattle.outside.specs.Faults.{NeverFalls, RoseOrFull}
 use Rattle.outside.specs.declared.fault.LoadFault.{LoadFault}
 use Rattle.outside.specs.declared.fault.LoadFault.TheVariants as load
@@ -27,7 +29,8 @@ use Rattle.run_plan.specs.declared.status.FileOf.{FileOf}
 use Rattle.run_plan.specs.declared.status.FileOf.TheVariants as file
 use Rattle.run_plan.specs.declared.status.LimitOf.TheVariants as limit
 use Rattle.run_plan.proofs.DoingLemmas.{refuses_memory}
-use Rattle.run_plan.proofs.StageLemmas.{file_refuses, file_between}
+use Rattle.run_plan.specs.Naming.{tables_to}
+use Rattle.run_plan.proofs.StageLemmas.{file_refuses, file_between, file_to}
 
 -- ---- a file
 
@@ -48,15 +51,28 @@ short_text-front f xs = by (cases_lt 67108864 (length xs))
     by (inl h) = short_text-long f (take 67108865 xs) (omega (arith, length-take 67108865 xs)) ∙ sym (short_text-long f xs h)
     by (inr h) = ap (short_text f) (take_all 67108865 xs (omega arith))
 
--- what was loaded stands for the whole file
-pub file_read-loaded : (f : FileOf) (files : List File) (name : List ℕ) (held : Option (List File)) (bytes : List ℕ)
-    → held ≡ Some files → Loads held name 67108865 bytes → short_text f bytes ≡ file_read f files name
-unfolding file_read
-file_read-loaded f files name held bytes told gives = by (lookup files name) given
-  where
-    given : option_map (take 67108865) (lookup files name) ≡ Some bytes
-    given = subst (λ (o : Option (List File)). Loads o name 67108865 bytes) told gives
+-- ---- what is given of a file
 
+-- what is given of a file that a folder was asked for: what it holds, where it tells that, and else what was loaded
+abbrev pub found_at : Option (List File) → List ℕ → Option (List ℕ) → Option (List ℕ)
+found_at None name loaded = loaded
+found_at (Some files) name loaded = lookup files name
+
+pub is_found : (held : Option (List File)) (name : List ℕ) (loaded : Option (List ℕ)) → IsFileGiven name held (found_at held name loaded)
+is_found None name loaded files e = absurd cc
+is_found (Some given) name loaded files e = let same : given ≡ files = cc in ap (λ (fs : List File). lookup fs name) same
+
+-- the same where the folder is as it was
+pub found_before : (name : List ℕ) (old mid : Option (List File)) (found : Option (List ℕ)) → mid ≡ old → IsFileGiven name mid found → IsFileGiven name old found
+found_before name old mid found same h = subst (λ (o : Option (List File)). IsFileGiven name o found) same h
+
+-- what was loaded stands for the whole file
+pub file_read-loaded : (f : FileOf) (name : List ℕ) (held : Option (List File)) (bytes : List ℕ) → Loads held name 67108865 bytes
+    → short_text f bytes ≡ file_read f (found_at held name (Some bytes))
+unfolding file_read
+file_read-loaded f name None bytes gives = refl
+file_read-loaded f name (Some files) bytes gives = by (lookup files name) gives
+  where
     by : (found : Option (List ℕ)) → option_map (take 67108865) found ≡ Some bytes
         → short_text f bytes ≡ (or_refuse (status.NotFound f) found >>= (λ xs. short_text f xs))
     by None e = absurd cc
@@ -65,46 +81,59 @@ file_read-loaded f files name held bytes told gives = by (lookup files name) giv
         ap (short_text f) (sym same) ∙ short_text-front f xs
 
 -- a file that the folder lacks
-pub file_read-lacks : (f : FileOf) (files : List File) (name : List ℕ) (held : Option (List File)) → held ≡ Some files → Lacks held name
-    → file_read f files name ≡ Err (status.NotFound f)
+pub file_read-lacks : (f : FileOf) (name : List ℕ) (held : Option (List File)) → Lacks held name
+    → file_read f (found_at held name None) ≡ Err (status.NotFound f)
 unfolding file_read
-file_read-lacks f files name held told lacks =
-    let none : lookup files name ≡ None = subst (λ (o : Option (List File)). Lacks o name) told lacks in
-    rw none refl
+file_read-lacks f name None lacks = absurd lacks
+file_read-lacks f name (Some files) lacks = rw lacks refl
 
 -- a load that went well, of a file that isn't too long and of one that is
 pub went_loaded : (f : FileOf) (name bytes : List ℕ) (old new : Folder) → new.holds ≡ old.holds → new.faults ≡ old.faults
-    → Loads old.holds name 67108865 bytes → length bytes ≤ 67108864 → Went old new (λ files. ComesTo (file_read f files name) (Ok bytes))
+    → Loads old.holds name 67108865 bytes → length bytes ≤ 67108864
+    → Went old new (IsFileGiven name) (λ found. ComesTo (file_read f found) (Ok bytes))
 went_loaded f name bytes old new keeps kept gives short = record {
   keeps = keeps;
   kept = kept;
-  tells = λ files told. sym (short_text-short f bytes short) ∙ file_read-loaded f files name old.holds bytes told gives;
+  given = found_at old.holds name (Some bytes);
+  agrees = is_found old.holds name (Some bytes);
+  tells = sym (short_text-short f bytes short) ∙ file_read-loaded f name old.holds bytes gives;
 }
 
 pub stopped_long : (f : FileOf) (name bytes : List ℕ) (old new : Folder) → new.holds ≡ old.holds → new.faults ≡ old.faults
     → Loads old.holds name 67108865 bytes → 67108864 < length bytes
-    → Stopped old new (λ files. ComesTo (file_read f files name) (Err (status.Limit (limit.File f)))) (λ files g. g ≡ f) (status.Limit (limit.File f))
+    → Stopped (tables_to f) 0 old new (IsFileGiven name) (λ found. ComesTo (file_read f found) (Err (status.Limit (limit.File f))))
+    (λ found g. g ≡ f) (status.Limit (limit.File f))
 stopped_long f name bytes old new keeps kept gives long = record {
   keeps = keeps;
   counts = omega (arith, kept);
   kept = kept;
-  refused = λ files told. file_refuses f _ (sym (short_text-long f bytes long) ∙ file_read-loaded f files name old.holds bytes told gives);
+  given = found_at old.holds name (Some bytes);
+  agrees = is_found old.holds name (Some bytes);
+  refused = file_refuses f _ (sym (short_text-long f bytes long) ∙ file_read-loaded f name old.holds bytes gives);
   read = λ g e. absurd cc;
-  early = record { between = file_between f; founded = tt; placed = tt };
+  early = record { between = file_between f; founded = tt; placed = tt; named = record { file = file_to f; access = tt } };
 }
 
 -- a load that failed
 pub stopped_load : (f : FileOf) (name : List ℕ) (fault : LoadFault) (old new : Folder) → new.holds ≡ old.holds → NeverFalls old.faults new.faults
     → (fault ≡ load.Absent → Lacks old.holds name) → (fault ≡ load.Absent → new.faults ≡ old.faults)
     → (fault ≡ load.Failed → RoseOrFull old.faults new.faults)
-    → Stopped old new (λ files. ComesTo (file_read f files name) (Err (load_status f fault))) (λ files g. g ≡ f) (load_status f fault)
+    → Stopped (tables_to f) 0 old new (IsFileGiven name) (λ found. ComesTo (file_read f found) (Err (load_status f fault)))
+    (λ found g. g ≡ f) (load_status f fault)
 stopped_load f name load.Absent old new keeps counts absent kept rose = record {
   keeps = keeps;
   counts = counts;
   kept = kept refl;
-  refused = λ files told. file_refuses f _ (sym (file_read-lacks f files name old.holds told (absent refl)));
+  given = found_at old.holds name None;
+  agrees = is_found old.holds name None;
+  refused = file_refuses f _ (sym (file_read-lacks f name old.holds (absent refl)));
   read = λ g e. absurd cc;
-  early = record { between = file_between f; founded = told_by old.holds (absent refl); placed = tt };
+  early = record {
+    between = file_between f;
+    founded = told_by old.holds (absent refl);
+    placed = tt;
+    named = record { file = file_to f; access = tt };
+  };
 }
   where
     told_by : (held : Option (List File)) → Lacks held name → IsSome held
@@ -114,17 +143,21 @@ stopped_load f name load.Failed old new keeps counts absent kept rose = record {
   keeps = keeps;
   counts = counts;
   kept = tt;
-  refused = λ files told. refl;
+  given = found_at old.holds name None;
+  agrees = is_found old.holds name None;
+  refused = refl;
   read = λ g e. rose refl;
-  early = record { between = file_between f; founded = tt; placed = tt };
+  early = record { between = file_between f; founded = tt; placed = tt; named = record { file = file_to f; access = tt } };
 }
 stopped_load f name load.Memory old new keeps counts absent kept rose = record {
   keeps = keeps;
   counts = counts;
   kept = tt;
-  refused = λ files told. tt;
+  given = found_at old.holds name None;
+  agrees = is_found old.holds name None;
+  refused = tt;
   read = λ g e. absurd cc;
-  early = record { between = tt; founded = tt; placed = tt };
+  early = record { between = tt; founded = tt; placed = tt; named = record { file = tt; access = tt } };
 }
 
 -- ---- a table
@@ -136,54 +169,58 @@ apart_limit : PastLimit ≡ NoMemory → ⊥
 apart_limit e = cc
 
 -- the refusal of a table's fault
-pub refuses_table : (number : ℕ) (P : Type 0) (fault : TableFault) → (fault ≢ table.Memory → P) → Refuses P (table_status number fault)
+pub refuses_table : (number : ℕ) (P : Type 0) (fault : TableFault) → (fault ≢ table.Memory → P) → Refuses (number + 1) 0 P (table_status number fault)
 refuses_table number P fault h = by (table_sort fault) refl
   where
     named : table_sort fault ≢ NoMemory → fault ≢ table.Memory
     named f e = f (ap table_sort e)
 
     by : (s : Sort) → table_sort fault ≡ s
-        → Refuses P (by_sort s (status.BadTable number fault) (status.Limit (limit.Table number fault)))
+        → Refuses (number + 1) 0 P (by_sort s (status.BadTable number fault) (status.Limit (limit.Table number fault)))
     by Plain e = record {
       may = h (named (λ (x : table_sort fault ≡ NoMemory). absurd (apart_plain (sym e ∙ x))));
-      early = record { between = tt; founded = tt; placed = e };
+      early = record { between = tt; founded = tt; placed = e; named = record { file = omega arith; access = tt } };
     }
     by PastLimit e = record {
       may = h (named (λ (x : table_sort fault ≡ NoMemory). absurd (apart_limit (sym e ∙ x))));
-      early = record { between = tt; founded = tt; placed = e };
+      early = record { between = tt; founded = tt; placed = e; named = record { file = omega arith; access = tt } };
     }
     by NoMemory e = refuses_memory P
 
 pub refuses_bytes : (number : ℕ) (bytes : List ℕ) (fault : TableFault) → (fault ≢ table.Memory → table_of_bytes bytes ≡ Err fault)
-    → Refuses (ComesTo (or_fault (table_status number) (table_of_bytes bytes)) (Err (table_status number fault))) (table_status number fault)
+    → Refuses (number + 1) 0 (ComesTo (or_fault (table_status number) (table_of_bytes bytes)) (Err (table_status number fault)))
+    (table_status number fault)
 refuses_bytes number bytes fault h = refuses_table number _ fault (λ other. sym (ap (or_fault (table_status number)) (h other)))
 
 -- the table of bytes that were loaded
-pub table_read-bytes : (number : ℕ) (files : List File) (name bytes : List ℕ) → ComesTo (file_read (file.Table number) files name) (Ok bytes)
-    → or_fault (table_status number) (table_of_bytes bytes) ≡ table_read number files name
+pub table_read-bytes : (number : ℕ) (found : Option (List ℕ)) (bytes : List ℕ) → ComesTo (file_read (file.Table number) found) (Ok bytes)
+    → or_fault (table_status number) (table_of_bytes bytes) ≡ table_read number found
 unfolding table_read
-table_read-bytes number files name bytes e = ap (λ (r : Result (List ℕ) Status). r >>= (λ xs. or_fault (table_status number) (table_of_bytes xs))) e
+table_read-bytes number found bytes e = ap (λ (r : Result (List ℕ) Status). r >>= (λ xs. or_fault (table_status number) (table_of_bytes xs))) e
 
-pub table_read-ok : (number : ℕ) (files : List File) (name bytes : List ℕ) (t : Relation) → ComesTo (file_read (file.Table number) files name) (Ok bytes)
-    → table_of_bytes bytes ≡ Ok t → ComesTo (table_read number files name) (Ok t)
-table_read-ok number files name bytes t e f = sym (ap (or_fault (table_status number)) f) ∙ table_read-bytes number files name bytes e
+pub table_read-ok : (number : ℕ) (found : Option (List ℕ)) (bytes : List ℕ) (t : Relation) → ComesTo (file_read (file.Table number) found) (Ok bytes)
+    → table_of_bytes bytes ≡ Ok t → ComesTo (table_read number found) (Ok t)
+table_read-ok number found bytes t e f = sym (ap (or_fault (table_status number)) f) ∙ table_read-bytes number found bytes e
 
-pub table_read-due : (number : ℕ) (files : List File) (name bytes : List ℕ) (s : Status) → ComesTo (file_read (file.Table number) files name) (Ok bytes)
-    → ComesTo (or_fault (table_status number) (table_of_bytes bytes)) (Err s) → ComesTo (table_read number files name) (Err s)
-table_read-due number files name bytes s e f = f ∙ table_read-bytes number files name bytes e
+pub table_read-due : (number : ℕ) (found : Option (List ℕ)) (bytes : List ℕ) (s : Status) → ComesTo (file_read (file.Table number) found) (Ok bytes)
+    → ComesTo (or_fault (table_status number) (table_of_bytes bytes)) (Err s) → ComesTo (table_read number found) (Err s)
+table_read-due number found bytes s e f = f ∙ table_read-bytes number found bytes e
 
 -- a file that couldn't be read
-pub table_read-unread : (number : ℕ) (files : List File) (name : List ℕ) (s : Status) → ComesTo (file_read (file.Table number) files name) (Err s)
-    → ComesTo (table_read number files name) (Err s)
+pub table_read-unread : (number : ℕ) (found : Option (List ℕ)) (s : Status) → ComesTo (file_read (file.Table number) found) (Err s)
+    → ComesTo (table_read number found) (Err s)
 unfolding table_read
-table_read-unread number files name s e = ap (λ (r : Result (List ℕ) Status). r >>= (λ xs. or_fault (table_status number) (table_of_bytes xs))) e
+table_read-unread number found s e = ap (λ (r : Result (List ℕ) Status). r >>= (λ xs. or_fault (table_status number) (table_of_bytes xs))) e
 
 -- ---- tables, in order
 
--- the tables of more words, behind those that were read
-abbrev pub read_behind : ℕ → List File → List Relation → TableWord → List TableWord → Result (List Relation) Status
-read_behind number files tables y ys =
-    table_read number files y.file >>= (λ t. tables_read (number + 1) files ys >>= (λ ts. Ok (tables ++ (t ∷ ts))))
+-- what is given of a file
+abbrev pub Found : Type 0
+Found = Option (List ℕ)
+
+-- the tables of more files, behind those that were read
+abbrev pub read_behind : ℕ → List Relation → Found → List Found → Result (List Relation) Status
+read_behind number tables y ys = table_read number y >>= (λ t. tables_read (number + 1) ys >>= (λ ts. Ok (tables ++ (t ∷ ts))))
 
 -- one more table in front of all
 in_front : (t : Relation) (tables : List Relation) (a : Result Relation Status) (b : Result (List Relation) Status)
@@ -199,86 +236,157 @@ both_read (Err s) b tables e = absurd cc
 both_read (Ok t) (Err s) tables e = absurd cc
 both_read (Ok t) (Ok ts) tables e = (t, ts, refl, refl, cc)
 
-pub tables_read-behind : (number : ℕ) (files : List File) (xs : List TableWord) (y : TableWord) (ys : List TableWord) (tables : List Relation)
-    → tables_read number files xs ≡ Ok tables
-    → tables_read number files (xs ++ (y ∷ ys)) ≡ read_behind (number + length xs) files tables y ys
+pub tables_read-behind : (number : ℕ) (xs : List Found) (y : Found) (ys : List Found) (tables : List Relation)
+    → tables_read number xs ≡ Ok tables → tables_read number (xs ++ (y ∷ ys)) ≡ read_behind (number + length xs) tables y ys
 unfolding tables_read
-tables_read-behind number files [] y ys tables e =
+tables_read-behind number [] y ys tables e =
     let none : [] ≡ tables = cc in
     let here : number ≡ number + 0 = omega arith in
-    ap (λ (n : ℕ). read_behind n files [] y ys) here ∙ ap (λ (ts : List Relation). read_behind (number + 0) files ts y ys) none
-tables_read-behind number files (x ∷ xs) y ys tables e =
-    let parts = both_read (table_read number files x.file) (tables_read (number + 1) files xs) tables e in
-    let behind = tables_read-behind (number + 1) files xs y ys parts.1 parts.3 in
+    ap (λ (n : ℕ). read_behind n [] y ys) here ∙ ap (λ (ts : List Relation). read_behind (number + 0) ts y ys) none
+tables_read-behind number (x ∷ xs) y ys tables e =
+    let parts = both_read (table_read number x) (tables_read (number + 1) xs) tables e in
+    let behind = tables_read-behind (number + 1) xs y ys parts.1 parts.3 in
     let here : (number + 1) + length xs ≡ number + suc (length xs) = omega arith in
-    ap (λ (a : Result Relation Status). a >>= (λ t. tables_read (number + 1) files (xs ++ (y ∷ ys)) >>= (λ ts. Ok (t ∷ ts)))) parts.2
+    ap (λ (a : Result Relation Status). a >>= (λ t. tables_read (number + 1) (xs ++ (y ∷ ys)) >>= (λ ts. Ok (t ∷ ts)))) parts.2
     ∙ ap (λ (b : Result (List Relation) Status). b >>= (λ ts. Ok (parts.0 ∷ ts))) behind
-    ∙ in_front parts.0 parts.1 (table_read ((number + 1) + length xs) files y.file) (tables_read (((number + 1) + length xs) + 1) files ys)
-    ∙ ap (λ (n : ℕ). read_behind n files (parts.0 ∷ parts.1) y ys) here
-    ∙ ap (λ (ts : List Relation). read_behind (number + suc (length xs)) files ts y ys) parts.4
+    ∙ in_front parts.0 parts.1 (table_read ((number + 1) + length xs) y) (tables_read (((number + 1) + length xs) + 1) ys)
+    ∙ ap (λ (n : ℕ). read_behind n (parts.0 ∷ parts.1) y ys) here
+    ∙ ap (λ (ts : List Relation). read_behind (number + suc (length xs)) ts y ys) parts.4
 
 -- the next table was read
-tables_read-more : (files : List File) (all : List TableWord) (i : ℕ) (d : TableWord) (tables : List Relation) (t : Relation) → i < length all
-    → tables_read 0 files (take i all) ≡ Ok tables → ComesTo (table_read i files (get_or all i d).file) (Ok t)
-    → tables_read 0 files (take (i + 1) all) ≡ Ok (tables ++ (t ∷ []))
+tables_read-more : (founds : List Found) (i : ℕ) (found : Found) (tables : List Relation) (t : Relation) → length founds ≡ i
+    → tables_read 0 founds ≡ Ok tables → ComesTo (table_read i found) (Ok t) → tables_read 0 (founds ++ found ∷ []) ≡ Ok (tables ++ (t ∷ []))
 unfolding tables_read
-tables_read-more files all i d tables t h e f =
-    let place : 0 + length (take i all) ≡ i = omega (arith, length-take-le i all (omega arith)) in
-    ap (tables_read 0 files) (take_more all i d h) ∙ tables_read-behind 0 files (take i all) (get_or all i d) [] tables e
-    ∙ ap (λ (n : ℕ). read_behind n files tables (get_or all i d) []) place
-    ∙ ap (λ (a : Result Relation Status). a >>= (λ u. tables_read (i + 1) files [] >>= (λ us. Ok (tables ++ (u ∷ us))))) (sym f)
+tables_read-more founds i found tables t long e f =
+    let place : 0 + length founds ≡ i = omega (arith, long) in
+    tables_read-behind 0 founds found [] tables e ∙ ap (λ (n : ℕ). read_behind n tables found []) place
+    ∙ ap (λ (a : Result Relation Status). a >>= (λ u. tables_read (i + 1) [] >>= (λ us. Ok (tables ++ (u ∷ us))))) (sym f)
 
 -- the next table was refused
-tables_read-refused : (files : List File) (all : List TableWord) (i : ℕ) (d : TableWord) (tables : List Relation) (s : Status) → i < length all
-    → tables_read 0 files (take i all) ≡ Ok tables → ComesTo (table_read i files (get_or all i d).file) (Err s)
-    → tables_read 0 files all ≡ Err s
-tables_read-refused files all i d tables s h e f =
-    let place : 0 + length (take i all) ≡ i = omega (arith, length-take-le i all (omega arith)) in
-    let split : all ≡ take i all ++ (get_or all i d ∷ drop (i + 1) all) =
-    sym (take-append-drop i all) ∙ ap (λ (z : List TableWord). take i all ++ z) (drop_more all i d h) in
-    ap (tables_read 0 files) split ∙ tables_read-behind 0 files (take i all) (get_or all i d) (drop (i + 1) all) tables e
-    ∙ ap (λ (n : ℕ). read_behind n files tables (get_or all i d) (drop (i + 1) all)) place
-    ∙ ap (λ (a : Result Relation Status). a >>= (λ t. tables_read (i + 1) files (drop (i + 1) all) >>= (λ ts. Ok (tables ++ (t ∷ ts))))) (sym f)
+tables_read-refused : (founds rest : List Found) (i : ℕ) (found : Found) (tables : List Relation) (s : Status) → length founds ≡ i
+    → tables_read 0 founds ≡ Ok tables → ComesTo (table_read i found) (Err s) → tables_read 0 (founds ++ found ∷ rest) ≡ Err s
+unfolding tables_read
+tables_read-refused founds rest i found tables s long e f =
+    let place : 0 + length founds ≡ i = omega (arith, long) in
+    tables_read-behind 0 founds found rest tables e ∙ ap (λ (n : ℕ). read_behind n tables found rest) place
+    ∙ ap (λ (a : Result Relation Status). a >>= (λ t. tables_read (i + 1) rest >>= (λ ts. Ok (tables ++ (t ∷ ts))))) (sym f)
+
+-- ---- what is given of the files of tables
+
+-- the files of no table, of one more, and of all where the rest isn't loaded
+pub found_none : (held : Option (List File)) → AreFilesGiven [] held []
+found_none held = record { count = refl; held = λ files e. refl }
+
+-- what a folder that holds these files gives of a table's
+abbrev held_at : List File → TableWord → Found
+held_at files t = lookup files t.file
+
+one_more : (files : List File) (all : List TableWord) (i : ℕ) (word d : TableWord) (founds : List Found) (found : Found) → i < length all
+    → word ≡ get_or all i d → founds ≡ map (held_at files) (take i all) → found ≡ held_at files word
+    → founds ++ found ∷ [] ≡ map (held_at files) (take (i + 1) all)
+one_more files all i word d founds found h is before here =
+    ap (λ (xs : List Found). xs ++ found ∷ []) before ∙ ap (λ (x : Found). map (held_at files) (take i all) ++ x ∷ []) here
+    ∙ sym (map-append (held_at files) (take i all) (word ∷ []))
+    ∙ ap (λ (w : TableWord). map (held_at files) (take i all ++ w ∷ [])) is ∙ ap (map (held_at files)) (sym (take_more all i d h))
+
+one_longer : (founds : List Found) (found : Found) (i : ℕ) → length founds ≡ i → length (founds ++ found ∷ []) ≡ i + 1
+one_longer founds found i e = length-append founds (found ∷ []) ∙ ap (λ (n : ℕ). n + 1) e
+
+pub found_more : (held : Option (List File)) (all : List TableWord) (i : ℕ) (word d : TableWord) (founds : List Found) (found : Found)
+    → i < length all → word ≡ get_or all i d → AreFilesGiven (take i all) held founds → IsFileGiven word.file held found
+    → AreFilesGiven (take (i + 1) all) held (founds ++ found ∷ [])
+found_more held all i word d founds found h is before here =
+    let now : length (take (i + 1) all) ≡ i + 1 = length-take-le (i + 1) all (omega (arith, h)) in
+    let was : length (take i all) ≡ i = length-take-le i all (omega (arith, h)) in
+    record {
+      count = one_longer founds found i (before.count ∙ was) ∙ sym now;
+      held = λ files e. one_more files all i word d founds found h is (before.held files e) (here files e);
+    }
+
+-- what is given of files that weren't loaded
+abbrev pub unread : Option (List File) → List TableWord → List Found
+unread held words = map (λ (t : TableWord). found_at held t.file None) words
+
+unread_held : (files : List File) (words : List TableWord) → unread (Some files) words ≡ map (held_at files) words
+unread_held files words = refl
+
+pub unread_found : (held : Option (List File)) (words : List TableWord) → AreFilesGiven words held (unread held words)
+unread_found held words = record {
+  count = length-map words (λ (t : TableWord). found_at held t.file None);
+  held = λ files e. ap (λ (o : Option (List File)). unread o words) e ∙ unread_held files words;
+}
+
+pub found_rest : (held : Option (List File)) (all : List TableWord) (i : ℕ) (founds : List Found) → i ≤ length all
+    → AreFilesGiven (take i all) held founds → AreFilesGiven all held (founds ++ unread held (drop i all))
+found_rest held all i founds h before =
+    let rest = unread_found held (drop i all) in
+    let split : length (take i all) + length (drop i all) ≡ length all =
+    sym (length-append (take i all) (drop i all)) ∙ ap (λ (ts : List TableWord). length ts) (take-append-drop i all) in
+    record {
+      count = length-append founds (unread held (drop i all)) ∙ ap (λ (n : ℕ). n + length (unread held (drop i all))) before.count
+          ∙ ap (λ (n : ℕ). length (take i all) + n) rest.count ∙ split;
+      held = λ files e. ap (λ (xs : List Found). xs ++ unread held (drop i all)) (before.held files e)
+          ∙ ap (λ (xs : List Found). map (held_at files) (take i all) ++ xs) (rest.held files e)
+          ∙ sym (map-append (held_at files) (take i all) (drop i all)) ∙ ap (map (held_at files)) (take-append-drop i all);
+    }
+
+pub found_count : (held : Option (List File)) (all : List TableWord) (i : ℕ) (founds : List Found) → i ≤ length all
+    → AreFilesGiven (take i all) held founds → length founds ≡ i
+found_count held all i founds h before = before.count ∙ length-take-le i all h
+
+pub found_through : (held : Option (List File)) (all : List TableWord) (i : ℕ) (word d : TableWord) (founds : List Found) (found : Found)
+    → i < length all → word ≡ get_or all i d → AreFilesGiven (take i all) held founds → IsFileGiven word.file held found
+    → AreFilesGiven all held (founds ++ found ∷ unread held (drop (i + 1) all))
+found_through held all i word d founds found h is before here =
+    subst (AreFilesGiven all held) (append_assoc founds (found ∷ []) (unread held (drop (i + 1) all)))
+    (found_rest held all (i + 1) (founds ++ found ∷ []) (omega (arith, h)) (found_more held all i word d founds found h is before here))
+
+-- the same of the files of a query, where the folder is as it was
+pub found_all : (words : List TableWord) (old mid : Option (List File)) (founds : List Found) → mid ≡ old → AreFilesGiven words mid founds → AreFilesGiven words old founds
+found_all words old mid founds same h = subst (λ (o : Option (List File)). AreFilesGiven words o founds) same h
 
 -- what stands of the catalogue once the first words' tables were read
-pub record IsReadTo (files : List File) (words : List TableWord) (catalogue : NamedTables) : Type 0 where
+pub record IsReadTo (founds : List Found) (words : List TableWord) (catalogue : NamedTables) : Type 0 where
   pub names : catalogue.names ≡ map (λ (t : TableWord). lower t.name) words
-  pub tables : tables_read 0 files words ≡ Ok catalogue.tables
+  pub tables : tables_read 0 founds ≡ Ok catalogue.tables
 
-pub read_none : (files : List File) (catalogue : NamedTables) → catalogue ≡ record { names = []; tables = [] } → IsReadTo files [] catalogue
+pub read_none : (catalogue : NamedTables) → catalogue ≡ record { names = []; tables = [] } → IsReadTo [] [] catalogue
 unfolding tables_read
-read_none files catalogue e = record { names = ap (λ (c : NamedTables). c.names) e; tables = ap (λ (c : NamedTables). Ok c.tables) (sym e) }
+read_none catalogue e = record { names = ap (λ (c : NamedTables). c.names) e; tables = ap (λ (c : NamedTables). Ok c.tables) (sym e) }
 
-pub read_more : (files : List File) (all : List TableWord) (i : ℕ) (word d : TableWord) (old new : NamedTables) (t : Relation) → i < length all
-    → word ≡ get_or all i d → new ≡ with_table old word.name t → IsReadTo files (take i all) old → ComesTo (table_read i files word.file) (Ok t)
-    → IsReadTo files (take (i + 1) all) new
-read_more files all i word d old new t h is added r e = record {
+pub read_more : (founds : List Found) (found : Found) (all : List TableWord) (i : ℕ) (word d : TableWord) (old new : NamedTables) (t : Relation)
+    → i < length all → length founds ≡ i → word ≡ get_or all i d → new ≡ with_table old word.name t → IsReadTo founds (take i all) old
+    → ComesTo (table_read i found) (Ok t) → IsReadTo (founds ++ found ∷ []) (take (i + 1) all) new
+read_more founds found all i word d old new t h long is added r e = record {
   names = ap (λ (c : NamedTables). c.names) added
       ∙ ap (λ (ns : List (List ℕ)). ns ++ lower word.name ∷ []) r.names
       ∙ sym (map-append (λ (w : TableWord). lower w.name) (take i all) (word ∷ []))
       ∙ ap (λ (w : TableWord). map (λ (u : TableWord). lower u.name) (take i all ++ w ∷ [])) is
       ∙ ap (map (λ (u : TableWord). lower u.name)) (sym (take_more all i d h));
-  tables = tables_read-more files all i d old.tables t h r.tables (subst (λ (w : TableWord). ComesTo (table_read i files w.file) (Ok t)) is e)
-      ∙ ap (λ (c : NamedTables). Ok c.tables) (sym added);
+  tables = tables_read-more founds i found old.tables t long r.tables e ∙ ap (λ (c : NamedTables). Ok c.tables) (sym added);
 }
 
-pub read_refused : (files : List File) (all : List TableWord) (i : ℕ) (word d : TableWord) (old : NamedTables) (s : Status) → i < length all
-    → word ≡ get_or all i d → IsReadTo files (take i all) old → ComesTo (table_read i files word.file) (Err s)
-    → ComesTo (catalogue_read files all) (Err s)
+pub read_refused : (founds rest : List Found) (found : Found) (all : List TableWord) (i : ℕ) (words : List TableWord) (old : NamedTables) (s : Status)
+    → length founds ≡ i → IsReadTo founds words old → ComesTo (table_read i found) (Err s)
+    → ComesTo (catalogue_read (founds ++ found ∷ rest) all) (Err s)
 unfolding catalogue_read
-read_refused files all i word d old s h is r e =
+read_refused founds rest found all i words old s long r e =
     sym (ap (λ (x : Result (List Relation) Status). x >>= (λ ts. Ok (catalogue_of all ts)))
-    (tables_read-refused files all i d old.tables s h r.tables (subst (λ (w : TableWord). ComesTo (table_read i files w.file) (Err s)) is e)))
+    (tables_read-refused founds rest i found old.tables s long r.tables e))
 
-pub read_whole : (files : List File) (words : List TableWord) (catalogue : NamedTables) → IsReadTo files words catalogue
-    → ComesTo (catalogue_read files words) (Ok catalogue)
+pub read_whole : (founds : List Found) (words : List TableWord) (catalogue : NamedTables) → IsReadTo founds words catalogue
+    → ComesTo (catalogue_read founds words) (Ok catalogue)
 unfolding catalogue_read
-read_whole files words catalogue r =
+read_whole founds words catalogue r =
     sym (ap (λ (x : Result (List Relation) Status). x >>= (λ ts. Ok (catalogue_of words ts))) r.tables
     ∙ ap (λ (ns : List (List ℕ)). Ok (record { names = ns; tables = catalogue.tables })) (sym r.names))
 
 -- a table that is next is reached
-pub next_reached : (files : List File) (all : List TableWord) (i : ℕ) (old : NamedTables) → i < length all → IsReadTo files (take i all) old
-    → (f : FileOf) → f ≡ file.Table i → ReachedTable files all f
-next_reached files all i old within r f is =
-    subst (ReachedTable files all) (sym is) (within, subst (λ (o : Result (List Relation) Status). IsOk o) (sym r.tables) refl)
+pub next_reached : (founds rest : List Found) (found : Found) (i : ℕ) (words : List TableWord) (old : NamedTables) → length founds ≡ i
+    → IsReadTo founds words old → (f : FileOf) → f ≡ file.Table i → ReachedTable (founds ++ found ∷ rest) f
+next_reached founds rest found i words old long r f is =
+    let within : i < length (founds ++ found ∷ rest) = omega (arith, long, length-append founds (found ∷ rest)) in
+    let front : take i (founds ++ found ∷ rest) ≡ founds =
+    ap (λ (n : ℕ). take n (founds ++ found ∷ rest)) (sym long) ∙ take-append_seam founds (found ∷ rest) in
+    subst (ReachedTable (founds ++ found ∷ rest)) (sym is)
+    (within, subst (λ (o : Result (List Relation) Status). IsOk o) (sym (ap (tables_read 0) front ∙ r.tables)) refl)

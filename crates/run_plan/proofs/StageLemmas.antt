@@ -1,9 +1,10 @@
 -- What the phase and the stage of a status tell of a step's refusal.
-use Rattle.std.proofs.Common.{◌≡◌, Option, Some, None, refl, ap, subst}
-use Rattle.std.specs.Prelude.{MatchOption, ⊤}
+use Rattle.std.proofs.Common.{◌≡◌, ℕ, ◌≤◌, arith, Option, Some, None, refl, ap, subst}
+use Rattle.std.specs.Prelude.{IfSome, MatchOption, ⊤}
 use Rattle.run_plan.specs.Stage.{Phase, Before, Writing, AnyTime, phase_of, phase_of_file, stage_of, file_unread}
 use Rattle.run_plan.specs.Refusal.{RefusesIn, MayRefuse, IsNotWriting, IsBetween, IsFounded, IsEarly, HoldsAt, UnlessReadOrMemory}
 use Rattle.run_plan.specs.Doing.{never}
+use Rattle.run_plan.specs.Naming.{IsNamed, IsFileOf, IsAccessOf, file_named, access_named, tables_to}
 use Rattle.run_plan.specs.declared.status.FileOf.{FileOf}
 use Rattle.run_plan.specs.declared.status.FileOf.TheVariants as file
 use Rattle.run_plan.specs.declared.status.Stage.{Stage}
@@ -34,8 +35,31 @@ founded : (told tells : Type 0) (s : Status) → (told → tells) → IsFounded 
 founded told tells (status.NotFound file) f h = f h
 founded told tells _ f h = tt
 
-pub IsEarly-weaker : (told tells : Type 0) (s : Status) → (told → tells) → IsEarly told s → IsEarly tells s
-IsEarly-weaker told tells s f h = record { between = h.between; founded = founded told tells s f h.founded; placed = h.placed }
+-- what a status names of so many, it names of more
+named_more : {t u a b : ℕ} (s : Status) → IsNamed t a s → t ≤ u → a ≤ b → IsNamed u b s
+named_more {t} {u} {a} {b} s h files accesses = record { file = at (file_named s) h.file; access = by (access_named s) h.access }
+  where
+    at : (o : Option FileOf) → IfSome o (IsFileOf t) → IfSome o (IsFileOf u)
+    at None k = k
+    at (Some file.Script) k = tt
+    at (Some (file.Table number)) k = omega (arith, k, files)
+
+    by : (o : Option ℕ) → IfSome o (IsAccessOf a) → IfSome o (IsAccessOf b)
+    by None k = k
+    by (Some number) k = (k.0, omega (arith, k.1, accesses))
+
+-- a file is among the tables up to it
+pub file_to : (f : FileOf) → IsFileOf (tables_to f) f
+file_to file.Script = tt
+file_to (file.Table number) = omega arith
+
+pub IsEarly-weaker : {t u a b : ℕ} (told tells : Type 0) (s : Status) → (told → tells) → IsEarly t a told s → t ≤ u → a ≤ b → IsEarly u b tells s
+IsEarly-weaker told tells s f h files accesses = record {
+  between = h.between;
+  founded = founded told tells s f h.founded;
+  placed = h.placed;
+  named = named_more s h.named files accesses;
+}
 
 -- what holds of any status
 pub holds_anyway : (s : Status) (P : Type 0) → P → UnlessReadOrMemory s P
@@ -65,13 +89,13 @@ holds_same s P Q f = by (file_unread s)
 between_not : (s t : Status) → s ≡ t → (IsBetween t → ⊥) → IsBetween s → ⊥
 between_not s t e none h = none (subst IsBetween e h)
 
-pub early_not_done : (told : Type 0) (s : Status) → IsEarly told s → s ≡ status.Done → ⊥
+pub early_not_done : {t a : ℕ} (told : Type 0) (s : Status) → IsEarly t a told s → s ≡ status.Done → ⊥
 early_not_done told s h e = between_not s status.Done e (λ x. x) h.between
 
-pub early_not_write : (told : Type 0) (s : Status) → IsEarly told s → s ≡ status.Write → ⊥
+pub early_not_write : {t a : ℕ} (told : Type 0) (s : Status) → IsEarly t a told s → s ≡ status.Write → ⊥
 early_not_write told s h e = between_not s status.Write e (λ x. x) h.between
 
-pub early_not_usage : (told : Type 0) (s : Status) → IsEarly told s → s ≡ status.Usage → ⊥
+pub early_not_usage : {t a : ℕ} (told : Type 0) (s : Status) → IsEarly t a told s → s ≡ status.Usage → ⊥
 early_not_usage told s h e = between_not s status.Usage e (λ x. x) h.between
 
 -- a refusal at a file comes before the output
@@ -83,7 +107,7 @@ pub file_between : (f : FileOf) → IsNotWriting (phase_of_file f)
 file_between file.Script = tt
 file_between (file.Table number) = tt
 
-pub early_not_found : (told : Type 0) (s : Status) (f : FileOf) → IsEarly told s → s ≡ status.NotFound f → told
+pub early_not_found : {t a : ℕ} (told : Type 0) (s : Status) (f : FileOf) → IsEarly t a told s → s ≡ status.NotFound f → told
 early_not_found told s f h e = subst (IsFounded told) e h.founded
 
 -- the file of a read fault

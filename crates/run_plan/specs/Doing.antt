@@ -1,5 +1,5 @@
 -- Serves proofs, and the contracts of steps: what a step over a folder has done.
-use Rattle.std.specs.Prelude.{◌≡◌, ℕ, List, Some, IsSome}
+use Rattle.std.specs.Prelude.{◌≡◌, ℕ, List, Option, IsSome}
 use Rattle.outside.specs.Files.{File}
 use Rattle.outside.specs.Faults.{NeverFalls, RoseOrFull}
 use Rattle.sq_parse.specs.Spelling.{Spelled}
@@ -18,23 +18,30 @@ never file = ⊥
 abbrev pub IsParsedScript : Script → Type 0
 IsParsedScript script = (text : List ℕ) × Spelled text script
 
--- a step went well: the folder is as it was, and where it tells its files, this holds of them
-pub record Went (old new : Folder) (told : List File → Type 0) : Type 0 where
+-- a step went well: the folder is as it was, and this holds of what was given, which is what the folder holds, where it
+-- tells that
+pub record Went (old new : Folder) {X : Type 0} (IsAs : Option (List File) → X → Type 0) (told : X → Type 0)
+    : Type 0 where
   pub keeps : new.holds ≡ old.holds
   pub kept : new.faults ≡ old.faults
-  pub tells : (files : List File) → old.holds ≡ Some files → told files
+  pub given : X
+  pub agrees : IsAs old.holds given
+  pub tells : told given
 
--- a step that touches no folder refused
-pub record Refuses (expected : Type 0) (s : Status) : Type 0 where
+-- a step that touches no folder refused, and named at most one of so many tables or accesses
+pub record Refuses (tables accesses : ℕ) (expected : Type 0) (s : Status) : Type 0 where
   pub may : MayRefuse never expected s
-  pub early : IsEarly ⊥ s
+  pub early : IsEarly tables accesses ⊥ s
 
--- a step refused: where the folder tells its files, so it was expected, or a file that was reached wasn't read
-pub record Stopped (old new : Folder) (expected : List File → Type 0) (reached : List File → FileOf → Type 0)
-    (s : Status) : Type 0 where
+-- a step refused: by what was given that was expected, or a file that was reached wasn't read. It named at most one of
+-- so many tables or accesses
+pub record Stopped (tables accesses : ℕ) (old new : Folder) {X : Type 0} (IsAs : Option (List File) → X → Type 0)
+    (expected : X → Type 0) (reached : X → FileOf → Type 0) (s : Status) : Type 0 where
   pub keeps : new.holds ≡ old.holds
   pub counts : NeverFalls old.faults new.faults
   pub kept : UnlessReadOrMemory s (new.faults ≡ old.faults)
-  pub refused : (files : List File) → old.holds ≡ Some files → MayRefuse (reached files) (expected files) s
+  pub given : X
+  pub agrees : IsAs old.holds given
+  pub refused : MayRefuse (reached given) (expected given) s
   pub read : (f : FileOf) → s ≡ status.Read f → RoseOrFull old.faults new.faults
-  pub early : IsEarly (IsSome old.holds) s
+  pub early : IsEarly tables accesses (IsSome old.holds) s

@@ -1,10 +1,12 @@
 pub mod Stage
 pub mod Faults
 pub mod Steps
+pub mod Given
 pub mod Files
 pub mod Accesses
 pub mod DemoScript
 pub mod Prepared
+pub mod Naming
 pub mod Refusal
 pub mod Doing
 pub mod Loaded

@@ -6,6 +6,7 @@ use Rattle.sq_value.specs.Relation.{Relation}
 use Rattle.catalogue.specs.Named.{NamedTables, with_table}
 use Rattle.command_line.specs.declared.command.TableWord.{TableWord}
 use Rattle.run_plan.specs.Doing.{Went}
+use Rattle.run_plan.specs.Given.{IsFileGiven}
 use Rattle.run_plan.specs.Files.{table_read}
 use Rattle.run_base.specs.Seen.{Folder}
 use Rattle.run_plan.specs.Steps.{ComesTo}
@@ -23,4 +24,4 @@ load_status file load.Memory = status.Memory
 pub record AddsTable (before after : Folder) (number : ℕ) (word : TableWord) (old new : NamedTables) : Type 0 where
   pub table : Relation
   pub added : new ≡ with_table old word.name table
-  pub went : Went before after (λ files. ComesTo (table_read number files word.file) (Ok table))
+  pub went : Went before after (IsFileGiven word.file) (λ found. ComesTo (table_read number found) (Ok table))

@@ -5,7 +5,6 @@ use Rattle.sq_value.specs.declared.value.Truth.{Truth}
 use Rattle.sq_value.specs.declared.predicate.Kinds.{Kinds}
 use Rattle.sq_expr.specs.declared.block.Block.{Block}
 use Rattle.sq_expr.specs.declared.shape.Shape.{Shape}
-use Rattle.outside.specs.Files.{File}
 use Rattle.sq_parse.specs.Fault.{ReadsAs}
 use Rattle.sq_parse.specs.Shaped.{is_shaped}
 use Rattle.sq_parse.specs.declared.parser.ParseFault.{ParseFault}
@@ -24,6 +23,7 @@ use Rattle.command_line.specs.declared.command.TableWord.{TableWord}
 use Rattle.run_base.specs.declared.bound.Bound.{Bound}
 use Rattle.run_plan.specs.DemoScript.{demo_script}
 use Rattle.run_plan.specs.Faults.{script_status, bind_status}
+use Rattle.run_plan.specs.Given.{Given}
 use Rattle.run_plan.specs.Files.{file_read, tables_read, catalogue_read}
 use Rattle.run_plan.specs.Accesses.{accesses_read}
 use Rattle.run_plan.specs.Steps.{AndThen, ComesTo, or_fault}
@@ -44,9 +44,9 @@ predicates number kinds gives = record { calls = calling number kinds; gives = g
 abbrev pub IsSpelled : List ℕ → Result Script Status → Type 0
 IsSpelled text due = (read : Result Script ParseFault) × ReadsAs text read × (due ≡ or_fault script_status read)
 
--- the script of the file of this name
-abbrev pub IsScript : List File → List ℕ → Result Script Status → Type 0
-IsScript files name due = AndThen (ComesTo (file_read file.Script files name)) IsSpelled due
+-- the script, by what is given of its file
+abbrev pub IsScript : Option (List ℕ) → Result Script Status → Type 0
+IsScript found due = AndThen (ComesTo (file_read file.Script found)) IsSpelled due
 
 -- a statement is bound to a block; one with groups, DISTINCT or LIMIT to a block and a shape
 abbrev pub IsBoundAs : Scope → Statement → Block → Option Shape → Type 0
@@ -75,10 +75,10 @@ IsBoundPlan p asked script catalogue due =
     (λ bounds. ComesTo (Ok record { statements = bounds; catalogue = catalogue }))) due
 
 -- what is to be run: the script is read first, and then the tables in order
-unfoldable pub IsPlan : Predicates → Query → List File → Result Plan Status → Type 0
-IsPlan p q files due =
-    AndThen (IsScript files q.script)
-    (λ script. AndThen (ComesTo (catalogue_read files q.tables))
+unfoldable pub IsPlan : Predicates → Query → Given → Result Plan Status → Type 0
+IsPlan p q given due =
+    AndThen (IsScript given.script)
+    (λ script. AndThen (ComesTo (catalogue_read given.tables q.tables))
     (λ catalogue. IsBoundPlan p q.accesses script catalogue)) due
 
 -- the demo, with so many rows a table: its queries over its tables
@@ -86,14 +86,13 @@ unfoldable pub IsDemoPlan : Predicates → ℕ → ℕ → Result Plan Status �
 IsDemoPlan p rows seed due =
     AndThen (IsSpelled demo_script) (λ script. IsBoundPlan p [] script (demo rows (seed % 1000))) due
 
--- whether a file is one of these tables, and all tables before it are there and in form
-abbrev pub ReachedTable : List File → List TableWord → FileOf → Type 0
-ReachedTable files tables file.Script = ⊥
-ReachedTable files tables (file.Table number) =
-    (number < length tables) × IsOk (tables_read 0 files (take number tables))
+-- whether a file is one of these tables', and all tables before it are there and in form
+abbrev pub ReachedTable : List (Option (List ℕ)) → FileOf → Type 0
+ReachedTable founds file.Script = ⊥
+ReachedTable founds (file.Table number) = (number < length founds) × IsOk (tables_read 0 (take number founds))
 
 -- nothing refuses before a file is loaded: the script is loaded first, then the tables in order
-abbrev pub Reached : Query → List File → FileOf → Type 0
-Reached q files file.Script = ⊤
-Reached q files (file.Table number) =
-    ((script : Script) × IsScript files q.script (Ok script)) × ReachedTable files q.tables (file.Table number)
+abbrev pub Reached : Given → FileOf → Type 0
+Reached given file.Script = ⊤
+Reached given (file.Table number) =
+    ((script : Script) × IsScript given.script (Ok script)) × ReachedTable given.tables (file.Table number)

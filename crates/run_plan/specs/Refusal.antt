@@ -1,6 +1,7 @@
 -- Serves proofs, but for `UnlessReadOrMemory`: when a step may refuse, beside its definition.
-use Rattle.std.specs.Prelude.{MatchOption, ⊤}
+use Rattle.std.specs.Prelude.{ℕ, MatchOption, ⊤}
 use Rattle.run_plan.specs.Faults.{IsPlaced}
+use Rattle.run_plan.specs.Naming.{IsNamed}
 use Rattle.run_plan.specs.Stage.{Phase, Before, Writing, AnyTime, phase_of, stage_of, file_unread}
 use Rattle.run_plan.specs.declared.status.FileOf.{FileOf}
 use Rattle.run_plan.specs.declared.status.Stage.{Stage}
@@ -34,11 +35,12 @@ abbrev pub IsFounded : Type 0 → Status → Type 0
 IsFounded told (NotFound file) = told
 IsFounded told _ = ⊤
 
--- what a step between the words and the output may answer in any folder
-pub record IsEarly (told : Type 0) (s : Status) : Type 0 where
+-- what a step between the words and the output may answer in any folder, where it knows so many tables and accesses
+pub record IsEarly (tables accesses : ℕ) (told : Type 0) (s : Status) : Type 0 where
   pub between : IsBetween s
   pub founded : IsFounded told s
   pub placed : IsPlaced s
+  pub named : IsNamed tables accesses s
 
 -- what holds of a status but for want of memory
 abbrev pub HoldsAt : Stage → Type 0 → Type 0

@@ -93,7 +93,8 @@ pub fn read_accesses(
     requires within { All (IsAccess (length tables.now)) asked.now }
     ensures ok { IfOk result (λ accesses. ComesTo (spec.accesses_read tables.now asked.now) (Ok accesses.items)) }
     ensures fit { IfOk result (λ accesses. AreAccesses tables.now accesses.items) }
-    ensures refused { IfErr result (λ s. Refuses (ComesTo (spec.accesses_read tables.now asked.now) (Err s)) s) }
+    ensures refused { IfErr result (λ s.
+        Refuses 0 (length asked.now) (ComesTo (spec.accesses_read tables.now asked.now) (Err s)) s) }
 {
     match first_lacking(tables, asked) {
         Some(access) => Err(Status::NoColumn { access }),

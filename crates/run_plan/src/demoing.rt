@@ -44,7 +44,7 @@ fn plan_demo<P: Predicates>(
     ensures run { IfOk result (λ plan.
         All (IsRunnable (P.kinds_of functions.now) plan.catalogue.tables) plan.statements) }
     ensures refused { let p = predicates (P.number_of functions.now) (P.kinds_of functions.now) P.gives in
-        IfErr result (λ s. Refuses (spec.IsBoundPlan p [] script.now (tables.demo rows (seed % 1000)) (Err s)) s) }
+        IfErr result (λ s. Refuses 0 0 (spec.IsBoundPlan p [] script.now (tables.demo rows (seed % 1000)) (Err s)) s) }
 {
     match demo(alloc, rows, seed) {
         Ok(catalogue) => bind_over(alloc, &[], script, catalogue, functions),
@@ -69,7 +69,7 @@ pub fn prepare_demo<P: Predicates>(
     ensures run { IfOk result (λ plan.
         All (IsRunnable (P.kinds_of functions.now) plan.catalogue.tables) plan.statements) }
     ensures refused { let p = predicates (P.number_of functions.now) (P.kinds_of functions.now) P.gives in
-        IfErr result (λ s. Refuses (spec.IsDemoPlan p rows seed (Err s)) s) }
+        IfErr result (λ s. Refuses 0 0 (spec.IsDemoPlan p rows seed (Err s)) s) }
 {
     match parse_script(alloc, queries().as_bytes()) {
         Ok(script) => plan_demo(alloc, rows, seed, &script, functions),

@@ -1,11 +1,12 @@
 //! Loads the files that the words name, and reads the tables.
 
-ghost use Rattle.std.specs.Prelude.{◌≡◌, ◌<◌, ◌≤◌, List, Some, Ok, Err, IfOk, IfErr, OnOk, length};
-ghost use Rattle.outside.specs.Files.{File};
+ghost use Rattle.std.specs.Prelude.{◌≡◌, ◌<◌, ◌≤◌, ◌+◌, List, Some, Ok, Err, IfOk, IfErr, OnOk, length};
 ghost use Rattle.table_csv.specs.TableFile.{table_of_bytes};
 ghost use Rattle.run_plan.specs.Doing.{Went, Stopped, Refuses};
 ghost use Rattle.run_plan.specs.Faults as faults;
+ghost use Rattle.run_plan.specs.Given.{IsFileGiven, AreFilesGiven};
 ghost use Rattle.run_plan.specs.Files.{file_read, table_read, catalogue_read};
+ghost use Rattle.run_plan.specs.Naming.{tables_to};
 ghost use Rattle.run_plan.specs.Loaded as loaded;
 ghost use Rattle.run_plan.specs.Loaded.{AddsTable};
 ghost use Rattle.run_plan.specs.Prepared.{ReachedTable};
@@ -49,12 +50,12 @@ pub fn load<F: Folder>(
     ensures went { IfOk result (λ bytes.
         Went (folder_seen (F.holds folder.old) (F.faults folder.old))
         (folder_seen (F.holds folder.new) (F.faults folder.new))
-        (λ files. ComesTo (file_read file files name.now) (Ok bytes.items))) }
+        (IsFileGiven name.now) (λ found. ComesTo (file_read file found) (Ok bytes.items))) }
     ensures short { IfOk result (λ bytes. length bytes.items ≤ 67108864) }
     ensures stopped { IfErr result (λ s.
-        Stopped (folder_seen (F.holds folder.old) (F.faults folder.old))
+        Stopped (tables_to file) 0 (folder_seen (F.holds folder.old) (F.faults folder.old))
         (folder_seen (F.holds folder.new) (F.faults folder.new))
-        (λ files. ComesTo (file_read file files name.now) (Err s)) (λ files f. f ≡ file) s) }
+        (IsFileGiven name.now) (λ found. ComesTo (file_read file found) (Err s)) (λ found f. f ≡ file) s) }
 {
     match folder.load(alloc, name, MOST_BYTES + 1) {
         Ok(bytes) => {
@@ -73,7 +74,7 @@ pub fn load<F: Folder>(
 fn table_of(alloc: Global, bytes: &[u8], number: u32) -> Result<Table, Status>
     ensures ok { IfOk result (λ table. table_of_bytes bytes.now ≡ Ok table) }
     ensures refused { IfErr result (λ s.
-        Refuses (ComesTo (or_fault (faults.table_status number) (table_of_bytes bytes.now)) (Err s)) s) }
+        Refuses (number + 1) 0 (ComesTo (or_fault (faults.table_status number) (table_of_bytes bytes.now)) (Err s)) s) }
 {
     match read_table(alloc, bytes) {
         Ok(table) => Ok(table),
@@ -91,11 +92,12 @@ fn load_table<F: Folder>(
     ensures went { IfOk result (λ table.
         Went (folder_seen (F.holds folder.old) (F.faults folder.old))
         (folder_seen (F.holds folder.new) (F.faults folder.new))
-        (λ files. ComesTo (table_read number files name.now) (Ok table))) }
+        (IsFileGiven name.now) (λ found. ComesTo (table_read number found) (Ok table))) }
     ensures stopped { IfErr result (λ s.
-        Stopped (folder_seen (F.holds folder.old) (F.faults folder.old))
+        Stopped (number + 1) 0 (folder_seen (F.holds folder.old) (F.faults folder.old))
         (folder_seen (F.holds folder.new) (F.faults folder.new))
-        (λ files. ComesTo (table_read number files name.now) (Err s)) (λ files f. f ≡ file_of.Table number) s) }
+        (IsFileGiven name.now) (λ found. ComesTo (table_read number found) (Err s))
+        (λ found f. f ≡ file_of.Table number) s) }
 {
     let bytes = load(alloc, folder, name, FileOf::Table(number))?;
     table_of(alloc, bytes.as_slice(), number)
@@ -115,9 +117,10 @@ fn push_table<F: Folder>(
         (folder_seen (F.holds folder.new) (F.faults folder.new))
         number word.now catalogue.old catalogue.new) }
     ensures stopped { IfErr result (λ s.
-        Stopped (folder_seen (F.holds folder.old) (F.faults folder.old))
+        Stopped (number + 1) 0 (folder_seen (F.holds folder.old) (F.faults folder.old))
         (folder_seen (F.holds folder.new) (F.faults folder.new))
-        (λ files. ComesTo (table_read number files word.now.file) (Err s)) (λ files f. f ≡ file_of.Table number) s) }
+        (IsFileGiven word.now.file) (λ found. ComesTo (table_read number found) (Err s))
+        (λ found f. f ≡ file_of.Table number) s) }
 {
     let table = load_table(alloc, folder, word.file.as_str(), number)?;
     match catalogue.add(word.name.as_str(), table) {
@@ -139,12 +142,12 @@ pub fn load_tables<F: Folder>(
     ensures went { IfOk result (λ catalogue.
         Went (folder_seen (F.holds folder.old) (F.faults folder.old))
         (folder_seen (F.holds folder.new) (F.faults folder.new))
-        (λ files. ComesTo (catalogue_read files words.now) (Ok catalogue))) }
+        (AreFilesGiven words.now) (λ founds. ComesTo (catalogue_read founds words.now) (Ok catalogue))) }
     ensures count { IfOk result (λ catalogue. length catalogue.tables ≡ length words.now) }
     ensures stopped { IfErr result (λ s.
-        Stopped (folder_seen (F.holds folder.old) (F.faults folder.old))
+        Stopped (length words.now) 0 (folder_seen (F.holds folder.old) (F.faults folder.old))
         (folder_seen (F.holds folder.new) (F.faults folder.new))
-        (λ files. ComesTo (catalogue_read files words.now) (Err s)) (λ files. ReachedTable files words.now) s) }
+        (AreFilesGiven words.now) (λ founds. ComesTo (catalogue_read founds words.now) (Err s)) ReachedTable s) }
 {
     let mut catalogue = Catalogue::new(alloc);
     for (index, word) in words.iter().enumerate() {

@@ -8,6 +8,7 @@ ghost use Rattle.sq_parse.specs.Shaped as shapes;
 ghost use Rattle.sq_bind.specs.Given.{IsParsed, AreAccesses, over};
 ghost use Rattle.run_base.specs.Runnable.{IsRunnable};
 ghost use Rattle.run_plan.specs.Doing.{Went, Stopped, Refuses, IsParsedScript};
+ghost use Rattle.run_plan.specs.Given.{IsFileGiven, IsGiven};
 ghost use Rattle.run_plan.specs.Prepared as spec;
 ghost use Rattle.run_plan.specs.Prepared.{predicates};
 ghost use Rattle.run_base.specs.Seen.{folder_seen};
@@ -37,7 +38,7 @@ pub fn parse_script(alloc: Global, text: &[u8]) -> Result<Script, Status>
     requires { length text.now ≤ 67108864 }
     ensures ok { IfOk result (λ script. spec.IsSpelled text.now (Ok script)) }
     ensures parsed { IfOk result IsParsedScript }
-    ensures refused { IfErr result (λ s. Refuses (spec.IsSpelled text.now (Err s)) s) }
+    ensures refused { IfErr result (λ s. Refuses 0 0 (spec.IsSpelled text.now (Err s)) s) }
 {
     match parse(alloc, text) {
         Ok(script) => Ok(script),
@@ -50,12 +51,12 @@ fn read_script<F: Folder>(alloc: Global, folder: &mut F, name: &str) -> Result<S
     ensures went { IfOk result (λ script.
         Went (folder_seen (F.holds folder.old) (F.faults folder.old))
         (folder_seen (F.holds folder.new) (F.faults folder.new))
-        (λ files. spec.IsScript files name.now (Ok script))) }
+        (IsFileGiven name.now) (λ found. spec.IsScript found (Ok script))) }
     ensures parsed { IfOk result IsParsedScript }
     ensures stopped { IfErr result (λ s.
-        Stopped (folder_seen (F.holds folder.old) (F.faults folder.old))
+        Stopped 0 0 (folder_seen (F.holds folder.old) (F.faults folder.old))
         (folder_seen (F.holds folder.new) (F.faults folder.new))
-        (λ files. spec.IsScript files name.now (Err s)) (λ files f. f ≡ file_of.Script) s) }
+        (IsFileGiven name.now) (λ found. spec.IsScript found (Err s)) (λ found f. f ≡ file_of.Script) s) }
 {
     let text = load(alloc, folder, name, FileOf::Script)?;
     parse_script(alloc, text.as_slice())
@@ -78,7 +79,7 @@ fn bind_shaped<P: Predicates>(
     ensures runs { IfOk result (IsRunnable (P.kinds_of functions.now) catalogue.now.tables) }
     ensures refused { let calls = calling (P.number_of functions.now) (P.kinds_of functions.now) in
         IfErr result (λ s.
-        Refuses (spec.IsBoundTo (over catalogue.now accesses.now calls) number statement.now (Err s)) s) }
+        Refuses 0 0 (spec.IsBoundTo (over catalogue.now accesses.now calls) number statement.now (Err s)) s) }
 {
     match bind_shape(alloc, statement, catalogue, accesses, functions) {
         Ok(shaped) => Ok(Bound {
@@ -105,7 +106,7 @@ fn bind_one<P: Predicates>(
     ensures runs { IfOk result (IsRunnable (P.kinds_of functions.now) catalogue.now.tables) }
     ensures refused { let calls = calling (P.number_of functions.now) (P.kinds_of functions.now) in
         IfErr result (λ s.
-        Refuses (spec.IsBoundTo (over catalogue.now accesses.now calls) number statement.now (Err s)) s) }
+        Refuses 0 0 (spec.IsBoundTo (over catalogue.now accesses.now calls) number statement.now (Err s)) s) }
 {
     if is_shaped(statement) {
         return bind_shaped(alloc, number, statement, catalogue, accesses, functions);
@@ -132,7 +133,7 @@ fn bind_all<P: Predicates>(
     ensures run { IfOk result (All (IsRunnable (P.kinds_of functions.now) catalogue.now.tables)) }
     ensures refused { let calls = calling (P.number_of functions.now) (P.kinds_of functions.now) in
         IfErr result (λ s.
-        Refuses (spec.AreBoundTo (over catalogue.now accesses.now calls) 1 script.now.statements (Err s)) s) }
+        Refuses 0 0 (spec.AreBoundTo (over catalogue.now accesses.now calls) 1 script.now.statements (Err s)) s) }
 {
     let statements = script.statements.as_slice();
     let mut bounds = Items::new(alloc);
@@ -165,7 +166,7 @@ pub fn bind_over<P: Predicates>(
     ensures run { IfOk result (λ plan.
         All (IsRunnable (P.kinds_of functions.now) plan.catalogue.tables) plan.statements) }
     ensures refused { let p = predicates (P.number_of functions.now) (P.kinds_of functions.now) P.gives in
-        IfErr result (λ s. Refuses (spec.IsBoundPlan p asked.now script.now catalogue (Err s)) s) }
+        IfErr result (λ s. Refuses 0 (length asked.now) (spec.IsBoundPlan p asked.now script.now catalogue (Err s)) s) }
 {
     let accesses = read_accesses(alloc, catalogue.tables(), asked)?;
     let statements = bind_all(alloc, script, &catalogue, accesses.as_slice(), functions)?;
@@ -191,7 +192,8 @@ fn plan_over<P: Predicates>(
     ensures run { IfOk result (λ plan.
         All (IsRunnable (P.kinds_of functions.now) plan.catalogue.tables) plan.statements) }
     ensures refused { let p = predicates (P.number_of functions.now) (P.kinds_of functions.now) P.gives in
-        IfErr result (λ s. Refuses (spec.IsBoundPlan p query.now.accesses script.now catalogue (Err s)) s) }
+        IfErr result (λ s. Refuses 0 (length query.now.accesses)
+        (spec.IsBoundPlan p query.now.accesses script.now catalogue (Err s)) s) }
 {
     bind_over(
         alloc,
@@ -219,14 +221,15 @@ pub fn prepare<F: Folder, P: Predicates>(
         IfOk result (λ plan.
         Went (folder_seen (F.holds folder.old) (F.faults folder.old))
         (folder_seen (F.holds folder.new) (F.faults folder.new))
-        (λ files. spec.IsPlan p query.now files (Ok plan))) }
+        (IsGiven query.now) (λ given. spec.IsPlan p query.now given (Ok plan))) }
     ensures run { IfOk result (λ plan.
         All (IsRunnable (P.kinds_of functions.now) plan.catalogue.tables) plan.statements) }
     ensures stopped { let p = predicates (P.number_of functions.now) (P.kinds_of functions.now) P.gives in
         IfErr result (λ s.
-        Stopped (folder_seen (F.holds folder.old) (F.faults folder.old))
+        Stopped (length query.now.tables) (length query.now.accesses)
+        (folder_seen (F.holds folder.old) (F.faults folder.old))
         (folder_seen (F.holds folder.new) (F.faults folder.new))
-        (λ files. spec.IsPlan p query.now files (Err s)) (spec.Reached query.now) s) }
+        (IsGiven query.now) (λ given. spec.IsPlan p query.now given (Err s)) spec.Reached s) }
 {
     let script = read_script(alloc, folder, query.script.as_str())?;
     let catalogue = load_tables(alloc, folder, query.tables.as_slice())?;

@@ -131,6 +131,8 @@ const LOOKED_UP: &str = "\
 const DEMO: &str = "\
 ! --demo 1000 |  |  | 0 Done | query,rows/q1,100/q2,50/q3,540/ | \n\
 ! --demo 1000 --policy pressure --seed 18446744073709551615 |  |  | 0 Done | query,rows/q1,100/q2,50/q3,540/ | \n\
+! --demo 20000 --seed 7 |  |  | 0 Done | query,rows/q1,2000/q2,1000/q3,10800/ | \n\
+! --demo 20000 --seed 999 |  |  | 0 Done | query,rows/q1,2000/q2,1000/q3,10800/ | \n\
 ! --demo 1 |  |  | 0 Done | query,rows/q1,0/q2,1/q3,0/ | \n\
 ! --demo 1 --tally --policy script --route b |  |  | 0 Done | query,rows/q1,0/q2,1/q3,0/ | query 1: built 1,1 hops 4 \
     looked 0/query 2: built 1,1,1 hops 5 looked 0/query 3: built 1,1 hops 4 looked 0/\n\
@@ -463,6 +465,7 @@ fn sure_folder_and_sink(rt: HostRuntime) -> Result<(), Fail> {
     Ok(())
 }
 
+mod engine;
 mod limits;
 mod shaped;
 mod workers;

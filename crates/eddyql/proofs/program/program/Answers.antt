@@ -4,6 +4,7 @@ use Rattle.run_base.specs.Seen.{World}
 use Rattle.run_plan.specs.Stage.{stage_of, code_of}
 use Rattle.run_plan.specs.declared.status.Status.{Status}
 use Rattle.run_plan.specs.declared.status.Status.TheVariants as status
+use Rattle.eddyql.specs.Asked.{are_fileless}
 use Rattle.eddyql.specs.Ending.{Finished}
 use Rattle.eddyql.specs.Outcome.{status_of}
 use Rattle.eddyql.proofs.EndedLemmas.{complete_of}
@@ -20,28 +21,31 @@ done_of status.Done e = refl
 done_of _ e = absurd (omega (arith, e))
 
 -- a run that ended, of equal words
-same_finished : (p : Predicates) (ws vs : List (List ℕ)) (old new : World) (s : Status) → ws ≡ vs → Finished p ws old new s → Finished p vs old new s
+same_finished : {O N : Type 0} (p : Predicates) (ws vs : List (List ℕ)) (old new : World O N) (s : Status) → ws ≡ vs → Finished p ws old new s → Finished p vs old new s
 same_finished p ws vs old new s e f = subst (λ (x : List (List ℕ)). Finished p x old new s) e f
 
 pub returns-clause-done : goal.returns-clause-done
-returns-clause-done g c = λ zero files told.
-    (same_finished _ _ _ _ _ c.run.result c.behind_name-words.ensures c.run.ensures.finished).ended.done
-    (done_of c.run.result (sym c.code_for.ensures ∙ zero)) files told
+returns-clause-done g c = λ zero.
+    let f = same_finished _ _ _ _ _ c.run.result c.behind_name-words.ensures c.run.ensures.finished in
+    (f.given, f.is_given, f.ended.done (done_of c.run.result (sym c.code_for.ensures ∙ zero)))
 
 pub returns-clause-refused : goal.returns-clause-refused
-returns-clause-refused g c = λ files told due d. (
-  c.run.result,
-  c.code_for.ensures,
-  (same_finished _ _ _ _ _ c.run.result c.behind_name-words.ensures c.run.ensures.finished).refused files told due d,
-)
+returns-clause-refused g c =
+    let f = same_finished _ _ _ _ _ c.run.result c.behind_name-words.ensures c.run.ensures.finished in
+    (f.given, f.is_given, λ due d. (c.run.result, c.code_for.ensures, f.refused due d))
 
 pub returns-clause-complete : goal.returns-clause-complete
-returns-clause-complete g c = λ files told calm quiet due d.
-    subst (λ (n : ℕ). (n ≡ code_of (stage_of (status_of due))) ⊎ (n ≡ 9)) (sym c.code_for.ensures)
-    (code_either c.run.result (status_of due)
-    (complete_of _ _ _ _ _ c.run.result
-    (same_finished _ _ _ _ _ c.run.result c.behind_name-words.ensures c.run.ensures.finished).ended files told calm quiet due d))
+returns-clause-complete g c = λ calm quiet.
+    let f = same_finished _ _ _ _ _ c.run.result c.behind_name-words.ensures c.run.ensures.finished in (
+      f.given,
+      f.is_given,
+      λ due d. subst (λ (n : ℕ). (n ≡ code_of (stage_of (status_of due))) ⊎ (n ≡ 9)) (sym c.code_for.ensures)
+          (code_either c.run.result (status_of due) (complete_of _ _ f.given _ _ _ c.run.result f.ended calm quiet due d)),
+    )
 
 pub returns-clause-finished : goal.returns-clause-finished
 returns-clause-finished g c =
     (c.run.result, c.code_for.ensures, same_finished _ _ _ _ _ c.run.result c.behind_name-words.ensures c.run.ensures.finished)
+
+pub returns-clause-untouched : goal.returns-clause-untouched
+returns-clause-untouched g c = λ e. c.run.ensures.untouched (ap are_fileless c.behind_name-words.ensures ∙ e)

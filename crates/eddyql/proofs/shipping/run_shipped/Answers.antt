@@ -6,20 +6,29 @@ use Rattle.eddyql.proofs.ShippingLemmas.{outcome_shipped, shipped_outcome, shipp
 use Rattle.eddyql.proofs.shipping.run_shipped.Goals as goal
 
 pub returns-clause-done : goal.returns-clause-done
-returns-clause-done g c = λ zero files told.
+returns-clause-done g c = λ zero.
     let same : signatures c.put-3.new.functions ≡ shipped_signatures = search rules in
-    let ended = c.program.ensures.done zero files told in (
-      ended.0,
-      shipped_outcome (signatures c.put-3.new.functions) (drop 1 (map string_bytes c.args.words.now)) files ended.0 same ended.1,
-      ended.2,
-      ended.3,
+    let over = c.program.ensures.done zero in
+    let ended = over.2 in (
+      over.0,
+      over.1,
+      (
+        ended.0,
+        shipped_outcome (signatures c.put-3.new.functions) (drop 1 (map string_bytes c.args.words.now)) over.0 ended.0 same ended.1,
+        ended.2,
+        ended.3,
+      ),
     )
 
 pub returns-clause-complete : goal.returns-clause-complete
-returns-clause-complete g c = λ files told calm quiet due outcome.
+returns-clause-complete g c = λ calm quiet.
     let same : signatures c.put-3.new.functions ≡ shipped_signatures = search rules in
-    c.program.ensures.complete files told calm quiet due
-    (outcome_shipped (signatures c.put-3.new.functions) (drop 1 (map string_bytes c.args.words.now)) files due same outcome)
+    let over = c.program.ensures.complete calm quiet in (
+      over.0,
+      over.1,
+      λ due outcome. over.2 due
+          (outcome_shipped (signatures c.put-3.new.functions) (drop 1 (map string_bytes c.args.words.now)) over.0 due same outcome),
+    )
 
 pub returns-clause-finished : goal.returns-clause-finished
 returns-clause-finished g c =

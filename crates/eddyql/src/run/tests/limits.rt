@@ -6,10 +6,14 @@ ghost use Rattle.outside.specs.Faults.{shown-bounded};
 use super::*;
 use outside::LoadFault;
 
-// A script of one byte more than the most, and numbers of statements and conjuncts at their limits.
+// A script of the most blanks, one of a byte more, and numbers of statements and conjuncts at their limits.
 #[test]
 fn at_limits(rt: HostRuntime) -> Result<(), Fail> {
     let alloc = rt.alloc();
+    let most = vec![in alloc; b' '; 67_108_864]?;
+    let at_end = "Script { fault: Syntax { at: 67108864 } }";
+    let note = "script: syntax at byte 67108864\n";
+    assert!(rt; ended(&rt, alloc, "n", &most, at_end, note)?);
     let long = vec![in alloc; b' '; 67_108_865]?;
     let of_script = "Limit { of: File { file: Script } }";
     assert!(rt; ended(&rt, alloc, "n", &long, of_script, "limit: file of script\n")?);
