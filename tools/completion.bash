@@ -7,12 +7,12 @@ _eddyql() {
         --workers | --seed | --route | --cache | --index | --lookup | --demo | --type | --separator | -c) ;;
         *)
             if [[ $word == -* ]]; then
-                mapfile -t COMPREPLY < <(compgen -W '-c -h -v --cache --demo --explain-faults --help --index --lookup --policy --route
-                    --seed --separator --tally --tsv --type --version --workers' -- "$word")
+                mapfile -t COMPREPLY < <(compgen -W '-c -h -v --cache --demo --explain-faults --help --index --json --lookup --policy --route
+                    --seed --separator --svg --tally --tsv --type --version --workers' -- "$word")
             else
                 # Behind a table's name and `=`, which bash takes for a word of its own, comes a file.
                 [[ $word != = ]] || word=''
-                mapfile -t COMPREPLY < <(compgen -f -- "$word")
+                mapfile -t COMPREPLY < <(compgen -f -- "$word"; [[ $COMP_CWORD != 1 ]] || compgen -W 'tables show explain' -- "$word")
             fi
             ;;
     esac
