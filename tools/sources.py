@@ -330,3 +330,89 @@ def proof_of(repository, function):
     if any("using(" in it or "unfolding(" in it for it in function.attributes):
         return "lemmas named"
     return "nothing written"
+
+
+START = re.compile(rf"^(?:(?:abbrev|unfoldable|opaque|irreducible)\s+)?(?:pub\s+)?(?:(?:record|data|class)\s+)?(?P<name>{NAME}|\S*◌\S*)(?:\s|$)")
+
+
+def spec_imports(text):
+    """The words and the aliases of a spec's `use` lines: word to (module, name), alias to module."""
+    words, aliases = {}, {}
+    for line in text.split("\n"):
+        said = re.match(r"use (\S+?)(?:\.\{(.*)\})?(?: as (\S+))?$", line)
+        if not said:
+            continue
+        module, inside, alias = said.groups()
+        for part in (inside or "").split(","):
+            name, _, other = part.strip().partition(" as ")
+            if name:
+                words[other or name] = (module, name)
+        if inside is None:
+            aliases[alias or module.rsplit(".", 1)[-1]] = module
+    return words, aliases
+
+
+Body = namedtuple("Body", "crate module name file line lines text words aliases")
+
+
+def bodies(repository, crate):
+    """Each definition of a crate's specs/, private ones too, by module and name: its lines without comments, and its text."""
+    found = {}
+    for file in repository.files(crate, "specs", ".antt"):
+        module, text = module_of(file, "specs"), repository.text(file)
+        words, aliases = spec_imports(text)
+        now = None
+        for number, line in enumerate(text.split("\n"), 1):
+            if not line.strip() or line.startswith(("--", "use ", "infix", "prefix", "postfix", "pub mod ", "mod ")):
+                continue
+            said = START.match(line)
+            if said and said["name"] != now:
+                now = said["name"]
+                found.setdefault((module, now), [file, number, [], words, aliases])
+            if now:
+                found[module, now][2].append(line)
+    return {at: Body(crate, *at, file, number, len(lines), "\n".join(lines), words, aliases)
+            for at, (file, number, lines, words, aliases) in found.items()}
+
+
+def chains(repository):
+    """Which of the repository's definitions each definition cites, as a function from (crate, module, name) to a list."""
+    known = {crate: bodies(repository, crate) for crate in repository.crates}
+
+    def place(module, name):
+        parts = module.split(".")
+        if len(parts) < 3 or parts[0] != "Rattle" or parts[2] != "specs" or parts[1] not in known:
+            return None
+        inside = ".".join(parts[3:])
+        return (parts[1], inside, name) if (inside, name) in known[parts[1]] else None
+
+    def cites(at):
+        crate, module, name = at
+        body = known[crate][module, name]
+        found = []
+        for dotted in re.findall(rf"{NAME}(?:\.{NAME})*", body.text):
+            first, _, rest = dotted.partition(".")
+            if first in body.words:
+                found.append(place(*body.words[first]))
+            elif first in body.aliases and rest:
+                found.append(place(body.aliases[first], rest.split(".")[0]))
+            elif (module, first) in known[crate]:
+                found.append((crate, module, first))
+        for word, where in body.words.items():
+            parts = [it for it in word.split("◌") if it]
+            if "◌" in word and parts and all(it in body.text for it in parts):
+                found.append(place(*where))
+        return [it for it in dict.fromkeys(found) if it and it != at]
+
+    return known, cites
+
+
+def reached(cites, beginnings):
+    """All definitions that a chain of citations comes to from these, and these."""
+    found, waiting = set(), list(beginnings)
+    while waiting:
+        at = waiting.pop()
+        if at not in found:
+            found.add(at)
+            waiting += cites(at)
+    return found
