@@ -3,8 +3,10 @@
 
 mod ahead;
 mod arranging;
+mod blocks;
 mod cell;
 mod comparing;
+mod counting;
 mod fault;
 mod field;
 mod halving;

@@ -272,3 +272,33 @@ fn answers_are_written(rt: HostRuntime) -> Result<(), Fail> {
     assert_eq!(rt; out.put(b"!"), Ok(()));
     Ok(())
 }
+
+/// So many combinations whose rows aren't in the table.
+fn rowless(alloc: Global, many: u32) -> Result<Vec<Combo>, Memory> {
+    let mut combos = Vec::with_capacity(alloc, many as usize)?;
+    for row in 0..many {
+        combos.push(combo(row.saturating_add(1_000), 0))?;
+    }
+    Ok(combos)
+}
+
+/// Records of five nulls are five bytes each, so that 13,107 of them are a block: the third put is the second block's.
+#[test]
+#[tactic(auto, using(crate::proofs::SampleLaws::sample_shown))]
+fn large_answers_are_put_in_blocks(rt: HostRuntime) -> Result<(), Fail> {
+    let alloc = rt.alloc();
+    let tables = sample_tables(alloc)?;
+    let block = sample_block(alloc, &[(0, 0), (0, 1), (0, 2), (0, 3), (0, 3)], &[])?;
+    for (many, taken) in [
+        (4_096, 15),
+        (4_097, 10 + 5 * 4_097),
+        (20_000, 10 + 5 * 13_107),
+    ] {
+        let combos = rowless(alloc, many)?;
+        let mut out = MemorySink::with_room(alloc, 200_000)?;
+        out.fail_at(3, 0)?;
+        let _fault = write_answer(alloc, &block, &tables, &combos, &mut out);
+        assert_eq!(rt; out.written().len(), taken);
+    }
+    Ok(())
+}

@@ -9,7 +9,9 @@ ghost use Rattle.outside.specs.Told.{Adds, AddsFront};
 ghost use Rattle.result_sink.specs.Ready.{IsShown, AddsPart, rows_of_combo, record_text};
 
 use crate::ahead::{keep_read, read_shown};
+use crate::blocks::put_blocks;
 use crate::fault::WriteFault;
+use crate::halving::MANY;
 use crate::record::{heading_line, record_line};
 use bag_meaning::Combo;
 use outside::Sink;
@@ -107,8 +109,35 @@ fn put_records<O: Sink>(
     Ok(())
 }
 
+/// The records of combinations, in order: a put for each; where there are more than 4,096, a put for each block of up
+/// to 64 KiB.
+fn put_lines<O: Sink>(
+    alloc: Global,
+    line: &mut Vec<u8>,
+    block: &Block,
+    tables: &Tables,
+    combos: &[Combo],
+    out: &mut O,
+) -> Result<(), WriteFault>
+    requires { IsShown block.now tables.now }
+    ensures counts { NeverFalls (O.faults out.old) (O.faults out.new) }
+    ensures ok { OnOk result (Adds (O.written out.old) (O.written out.new)
+        (flat_map (record_text block.now tables.now) combos.now)) }
+    ensures failed { result ≡ Err WriteFault.Failed → RoseOrFull (O.faults out.old) (O.faults out.new) }
+    ensures front { OnErr result (AddsFront (O.written out.old) (O.written out.new)
+        (flat_map (record_text block.now tables.now) combos.now)) }
+    ensures short { result ≡ Err WriteFault.Memory → AddsPart (O.written out.old) (O.written out.new)
+        (flat_map (record_text block.now tables.now) combos.now) }
+    ensures kept { OnOk result (O.faults out.new ≡ O.faults out.old) }
+{
+    if combos.len() > MANY {
+        return put_blocks(alloc, line, block, tables, combos, out);
+    }
+    put_records(line, block, tables, combos, out)
+}
+
 /// Writes an answer: the heading, and a record for each combination, in the given order. Each
-/// record is one put, and each is made in one buffer.
+/// record is one put; where there are more than 4,096, each block of up to 64 KiB of whole records is one.
 ///
 /// The block has at most 12 aliases, and its output columns are there. A row that isn't there is
 /// one of nulls.
@@ -136,5 +165,5 @@ pub fn write_answer<O: Sink>(
 {
     let mut line = Vec::new(alloc);
     put_heading(&mut line, block, out)?;
-    put_records(&mut line, block, tables, combos, out)
+    put_lines(alloc, &mut line, block, tables, combos, out)
 }

@@ -17,16 +17,16 @@ returns-in_err-put_heading-clause-front g c =
 pub returns-clause-ok : goal.returns-clause-ok
 returns-clause-ok g c =
     rw answer_text-combos
-    (Adds-at_ok c.put_records.result (g.O.Sink.written c.args.out.now) (g.O.Sink.written c.put_heading.new.out) (g.O.Sink.written c.put_records.new.out)
+    (Adds-at_ok c.put_lines.result (g.O.Sink.written c.args.out.now) (g.O.Sink.written c.put_heading.new.out) (g.O.Sink.written c.put_lines.new.out)
     (row_text default_writer (heading_fields c.args.block.now)) (flat_map (record_text c.args.block.now c.args.tables.now) c.args.combos.now)
-    c.in_ok-put_heading.ensures.ok c.put_records.ensures.ok)
+    c.in_ok-put_heading.ensures.ok c.put_lines.ensures.ok)
 
 pub returns-clause-front : goal.returns-clause-front
 returns-clause-front g c =
     rw answer_text-combos
-    (AddsFront-at_err c.put_records.result (g.O.Sink.written c.args.out.now) (g.O.Sink.written c.put_heading.new.out) (g.O.Sink.written c.put_records.new.out)
+    (AddsFront-at_err c.put_lines.result (g.O.Sink.written c.args.out.now) (g.O.Sink.written c.put_heading.new.out) (g.O.Sink.written c.put_lines.new.out)
     (row_text default_writer (heading_fields c.args.block.now)) (flat_map (record_text c.args.block.now c.args.tables.now) c.args.combos.now)
-    c.in_ok-put_heading.ensures.ok c.put_records.ensures.front)
+    c.in_ok-put_heading.ensures.ok c.put_lines.ensures.front)
 
 pub returns-in_err-put_heading-clause-short : goal.returns-in_err-put_heading-clause-short
 returns-in_err-put_heading-clause-short g c = λ e.
@@ -37,6 +37,6 @@ returns-in_err-put_heading-clause-short g c = λ e.
 pub returns-clause-short : goal.returns-clause-short
 returns-clause-short g c = λ e.
     rw answer_text-combos
-    (AddsPart-after (g.O.Sink.written c.args.out.now) (g.O.Sink.written c.put_heading.new.out) (g.O.Sink.written c.put_records.new.out)
+    (AddsPart-after (g.O.Sink.written c.args.out.now) (g.O.Sink.written c.put_heading.new.out) (g.O.Sink.written c.put_lines.new.out)
     (row_text default_writer (heading_fields c.args.block.now)) (flat_map (record_text c.args.block.now c.args.tables.now) c.args.combos.now)
-    c.in_ok-put_heading.ensures.ok (c.put_records.ensures.short e))
+    c.in_ok-put_heading.ensures.ok (c.put_lines.ensures.short e))
