@@ -291,6 +291,37 @@ def skewed(rows):
         routes=routes((2,), range(2)))
 
 
+def many_answers(rows):
+    """Two tables by keys of which few are frequent: an answer of some 28 rows for each row of a table."""
+    def of(rng):
+        keys = max(rows * 2 // 25, 10)
+        weights = list(itertools.accumulate(it ** -0.5 for it in range(1, keys + 1)))
+        return lines(range(rows), rng.choices(range(keys), cum_weights=weights, k=rows))
+
+    return Workload(
+        "answers", f"an equality join of {rows:,} rows a side with skewed keys, whose answer has 28 times as many rows",
+        [Table("lefts", ["id int", "k int"], of, rows), Table("rights", ["ref int", "k int"], of, rows)],
+        ["SELECT x.id, y.ref FROM lefts x JOIN rights y ON y.k = x.k"],
+        awk=lambda f: ["-F,", "FNR == 1 { file++; next } file == 1 { n = ++count[$2]; ref[$2, n] = $1; next } "
+                       "{ for (i = 1; i <= count[$2]; i++) print $1 \",\" ref[$2, i] }", f["rights"], f["lefts"]])
+
+
+def small_of_large(rows):
+    """Sixty queries, each of which wants few rows of three large tables."""
+    def orders(rng):
+        return lines(range(rows), numbers(rng, rows, rows), numbers(rng, rows, rows))
+
+    def people(rng):
+        return lines(range(rows), numbers(rng, rows, rows // 20))
+
+    return Workload(
+        "small-of-large", f"sixty queries in one script, each a join of three tables of {rows:,} rows, of which it wants twenty",
+        [Table("buys", ["id int", "person int", "ware int"], orders, rows), Table("folk", ["id int", "city int"], people, rows),
+         Table("wares", ["id int", "price int"], people, rows)],
+        [f"SELECT b.id, w.price FROM buys b JOIN folk p ON p.id = b.person JOIN wares w ON w.id = b.ware WHERE p.city = {i * 7}"
+         for i in range(60)])
+
+
 def band(rows):
     def spans(rng):
         at = numbers(rng, rows, 1_000_000)
@@ -406,7 +437,8 @@ def all_workloads(scale):
     return [*(equality(of(rows)) for rows in (10_000, 30_000, 100_000, 300_000, 1_000_000)), long_lists(of(20_000)), star(of(500_000)),
             chain(of(20_000)), drift(of(20_000)), tail(of(100_000)), tail(of(100_000), True), drift_of_five(of(100_000)),
             drift_of_five(of(300_000)), star_by_four(of(500_000)), knot("clique", of(20_000), of(500), CLIQUE), knot("cycle", of(20_000), of(5_000), CYCLE),
-            composite(of(50_000), 2), composite(of(50_000), 4), skewed(of(20_000)), band(of(30_000)), nulls(of(200_000)), texts(of(750_000)), small(of(1_000)), order(of(900_000)),
+            composite(of(50_000), 2), composite(of(50_000), 4), skewed(of(20_000)), many_answers(of(100_000)), band(of(30_000)), nulls(of(200_000)), texts(of(750_000)), small(of(1_000)),
+            small_of_large(of(100_000)), order(of(900_000)),
             groups(of(1_000_000)), different(of(1_000_000))]
 
 
