@@ -34,7 +34,8 @@ fn fill(
     requires shown { IsShown block.now tables.now }
     requires some { 0 < length combos.now }
     ensures some { IfOk result (λ many. (0 < many) × (many ≤ length combos.now)) }
-    ensures text { IfOk result (λ many. text.new.items ≡ flat_map (record_text block.now tables.now) (take many combos.now)) }
+    ensures text { IfOk result (λ many. text.new.items
+        ≡ flat_map (record_text block.now tables.now) (take many combos.now)) }
 {
     text.clear();
     for (many, combo) in combos.iter().enumerate() {
