@@ -7,7 +7,6 @@ use Rattle.std.proofs.lemmas.List.{length-map}
 use Rattle.std.proofs.lemmas.List.Elements.{All-head, All-nil, All-tail}
 use Rattle.std.proofs.lemmas.Map.Steps.{length-le_from_distinct_below}
 use Rattle.std.proofs.lemmas.Option.{slice_get_within}
-use Rattle.outside.specs.Files.{File}
 use Rattle.sq_value.specs.Relation.{Relation}
 use Rattle.sq_value.specs.declared.value.Value.{Value}
 use Rattle.sq_value.specs.declared.value.Truth.{Truth}
@@ -16,12 +15,11 @@ use Rattle.bag_meaning.proofs.PairLemmas.{AllPairs-head, AllPairs-nil, AllPairs-
 use Rattle.remote_lookup.specs.Asked.{AreFresh, Grows}
 use Rattle.remote_lookup.specs.Asking.{AreSpare, IsAskedAt, IsAskedBehind, IsAskedFirst, IsAskedIn}
 use Rattle.remote_lookup.specs.Asks.{AreAsks}
-use Rattle.remote_lookup.specs.KeyFiles.{key_file_of}
 use Rattle.remote_lookup.specs.Loaded.{FitRemotes, IsRemote}
 use Rattle.remote_lookup.specs.Needed.{IsAskedFor}
 use Rattle.remote_lookup.specs.Rounds.{AreOrdered, lists_key, key_order, rows_of_file}
 use Rattle.std.specs.declared.cmp.Ordering.TheVariants.{Less}
-use Rattle.remote_lookup.specs.Working.{IsEntry, IsStored, IsTallyOf, IsTrueOf, IsWork, MeansIn, known}
+use Rattle.remote_lookup.specs.Working.{IsEntry, IsTallyOf, IsWork, Means, known}
 use Rattle.remote_lookup.specs.declared.asked.Asked.{Asked}
 use Rattle.remote_lookup.specs.declared.asks.Ask.{Ask}
 use Rattle.remote_lookup.specs.declared.asks.By.{By}
@@ -111,29 +109,16 @@ module _ (gives : ℕ → Value → Value → Truth) (block : Block) (tables : L
     there = still_there none v.asked grows first_low (λ remote key h. absurd (false≢true h));
   }
 
-  pub begun_means : (held : Option (List File)) (v : Work) → v.loaded ≡ [] → Grows (IsAskedFirst gives block tables remotes asks) none v.asked → MeansIn gives block tables remotes held v
-  begun_means held v loaded grows = by held
+  pub begun_means : (v : Work) → v.loaded ≡ [] → Grows (IsAskedFirst gives block tables remotes asks) none v.asked → Means gives block tables remotes v
+  begun_means v loaded grows file stored remote key = (λ h. to ((grows.all remote key).0 h), λ h. (grows.all remote key).1 (from h))
     where
-      each : (files : List File) → IsTrueOf gives block tables remotes (key_file_of tables remotes files) v
-      each files = record {
-        stored = subst (All (IsStored (key_file_of tables remotes files))) (sym loaded) (All-nil (IsStored (key_file_of tables remotes files)));
-        asked = λ remote key. (λ h. to remote key ((grows.all remote key).0 h), λ h. (grows.all remote key).1 (from remote key h));
-      }
-        where
-          For : List (RemoteKey × Relation) → ℕ → ℤ → Type 0
-          For l remote key = IsAskedFor gives block tables remotes (λ r k. rows_of_file (key_file_of tables remotes files r k)) (lists_key (known l)) remote key
+      For : List (RemoteKey × Relation) → Type 0
+      For l = IsAskedFor gives block tables remotes (λ r k. rows_of_file (file r k)) (lists_key (known l)) remote key
 
-          to : (remote : ℕ) (key : ℤ) → (lists_key [] remote key ≡ true) ⊎ IsAskedFirst gives block tables remotes asks remote key → For v.loaded remote key
-          to remote key (inl e) = absurd (false≢true e)
-          to remote key (inr h) =
-              subst (λ (l : List (RemoteKey × Relation)). For l remote key) (sym loaded)
-              ((asked_first gives block tables remotes (λ r k. rows_of_file (key_file_of tables remotes files r k)) asks are remote key).0 h)
+      to : (lists_key [] remote key ≡ true) ⊎ IsAskedFirst gives block tables remotes asks remote key → For v.loaded
+      to (inl e) = absurd (false≢true e)
+      to (inr h) =
+          subst For (sym loaded) ((asked_first gives block tables remotes (λ r k. rows_of_file (file r k)) asks are remote key).0 h)
 
-          from : (remote : ℕ) (key : ℤ) → For v.loaded remote key → (lists_key [] remote key ≡ true) ⊎ IsAskedFirst gives block tables remotes asks remote key
-          from remote key h =
-              inr ((asked_first gives block tables remotes (λ r k. rows_of_file (key_file_of tables remotes files r k)) asks are remote key).1
-              (subst (λ (l : List (RemoteKey × Relation)). For l remote key) loaded h))
-
-      by : (o : Option (List File)) → MeansIn gives block tables remotes o v
-      by None = tt
-      by (Some files) = each files
+      from : For v.loaded → (lists_key [] remote key ≡ true) ⊎ IsAskedFirst gives block tables remotes asks remote key
+      from h = inr ((asked_first gives block tables remotes (λ r k. rows_of_file (file r k)) asks are remote key).1 (subst For loaded h))

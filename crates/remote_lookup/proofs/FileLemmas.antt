@@ -4,7 +4,6 @@ use Rattle.std.specs.Prelude.{ℤ, nat_lt, All, slice_get, Result, Ok, Err}
 use Rattle.std.specs.Cmp.{signed_Decides}
 use Rattle.std.proofs.lemmas.Bool.{false≢true}
 use Rattle.std.proofs.lemmas.List.Elements.{All-nil, All-cons}
-use Rattle.outside.specs.Files.{File, lookup}
 use Rattle.sq_value.specs.Columns.{are_same_columns}
 use Rattle.sq_value.specs.Relation.{Relation}
 use Rattle.sq_value.specs.declared.table.Column.{Column}
@@ -15,7 +14,7 @@ use Rattle.table_csv.specs.declared.fault.TableFault.{TableFault}
 use Rattle.remote_lookup.specs.Filled.{keys_at, AreInOrder}
 use Rattle.remote_lookup.specs.Rounds.{TooLong, Bad, rows_of_file}
 use Rattle.remote_lookup.specs.declared.remote.KeyFault.TheVariants as fault
-use Rattle.remote_lookup.specs.KeyFiles.{is_that_integer, other_key, unless_other, rows_for, rows_in, table_columns, file_in, key_file_of, key_name}
+use Rattle.remote_lookup.specs.KeyFiles.{KeyBytes, is_that_integer, other_key, unless_other, rows_for, rows_in, table_columns, file_in, key_file_of}
 use Rattle.remote_lookup.specs.declared.remote.Remote.{Remote}
 use Rattle.remote_lookup.specs.declared.remote.RemoteKey.{RemoteKey}
 
@@ -63,10 +62,10 @@ module _ (column : ℕ) (key : ℤ) where
       by false = of_table columns (table_of_bytes bytes)
 
 -- so the rows of any keys' files are in order
-pub files_in_order : (tables : List Relation) (remotes : List Remote) (files : List File) (keys : List RemoteKey)
-    → AreInOrder remotes (λ r k. rows_of_file (key_file_of tables remotes files r k)) keys
+pub files_in_order : (tables : List Relation) (remotes : List Remote) (found : KeyBytes) (keys : List RemoteKey)
+    → AreInOrder remotes (λ r k. rows_of_file (key_file_of tables remotes found r k)) keys
 unfolding key_file_of
-files_in_order tables remotes files keys remote r is k d low =
+files_in_order tables remotes found keys remote r is k d low =
     let key = get_or (keys_at keys remote) k d in
-    subst (λ (o : Option Remote). All (λ (row : List Value). slice_get row r.column ≡ Some (value.Int key)) (rows_of_file (file_in tables files key o))) (sym is)
-    (of_bytes r.column key (table_columns tables r.table) (lookup files (key_name r.prefix key)))
+    subst (λ (o : Option Remote). All (λ (row : List Value). slice_get row r.column ≡ Some (value.Int key)) (rows_of_file (file_in tables (found remote key) key o))) (sym is)
+    (of_bytes r.column key (table_columns tables r.table) (found remote key))

@@ -23,11 +23,11 @@ use Rattle.remote_lookup.proofs.PlaceLemmas.{get_set_same, get_set_other}
 use Rattle.remote_lookup.proofs.QueryLemmas.{some_one}
 use Rattle.remote_lookup.proofs.SetLemmas.{ties}
 
-left_false : (a b : Bool) → (a || b) ≡ false → a ≡ false
+pub left_false : (a b : Bool) → (a || b) ≡ false → a ≡ false
 left_false true b e = absurd (false≢true (sym e))
 left_false false b e = refl
 
-right_false : (a b : Bool) → (a || b) ≡ false → b ≡ false
+pub right_false : (a b : Bool) → (a || b) ≡ false → b ≡ false
 right_false true b e = absurd (false≢true (sym e))
 right_false false b e = e
 
@@ -81,6 +81,14 @@ module _ (es : List Entry) (k : RemoteKey) (v : Relation) (new : lists_key (know
       let p = parts es k v new in
       let both : All P (p.front ++ p.back) = subst (All P) p.old all in
       subst (All P) (sym p.new) (All-append P p.front ((k, v) ∷ p.back) (All-front P p.front p.back both) (All-cons P (k, v) p.back one (All-back P p.front p.back both)))
+
+  -- and what holds of all with it holds of all, and of it
+  pub all_inserted : (P : Entry → Type 0) → All P (insert_entry key_order es k v) → All P es × P (k, v)
+  all_inserted P all =
+      let p = parts es k v new in
+      let both : All P (p.front ++ (k, v) ∷ p.back) = subst (All P) p.new all in
+      let back = All-back P p.front ((k, v) ∷ p.back) both in
+      (subst (All P) (sym p.old) (All-append P p.front p.back (All-front P p.front ((k, v) ∷ p.back) both) (All-tail P (k, v) p.back back)), All-head P (k, v) p.back back)
 
   -- the keys are those with one more
   pub joined_insert : AreJoined (known es) (k ∷ []) (known (insert_entry key_order es k v))

@@ -24,9 +24,11 @@ pub mod PlaceLemmas
 pub mod JoinLemmas
 pub mod InsertLemmas
 pub mod TrueLemmas
+pub mod GivenLemmas
 pub mod FreshLemmas
 pub mod RunLemmas
 pub mod RoundsLemmas
+pub mod AlikeLemmas
 pub mod GatherLemmas
 pub mod BegunLemmas
 pub mod KeyLemmas

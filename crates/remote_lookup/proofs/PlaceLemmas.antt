@@ -23,10 +23,6 @@ get_set_other (y ∷ xs) zero (suc j) x ne = refl
 get_set_other (y ∷ xs) (suc i) zero x ne = refl
 get_set_other (y ∷ xs) (suc i) (suc j) x ne = let ne' : i ≢ j = (λ e. ne (ap suc e)) in get_set_other xs i j x ne'
 
-pub if_some : {X : Type 0} {P Q : X → Type 0} (o : Option X) → ((x : X) → P x → Q x) → IfSome o P → IfSome o Q
-if_some None f h = tt
-if_some (Some x) f h = f x h
-
 -- a refusal that is handed on
 pub through : {T E : Type 0} (r : Result T E) (y : E) (P : E → Type 0) → IsErrAnd r (λ x. x ≡ y) → P y → IfErr r P
 through r y P h p = let q = err_from_is_err_and r h in rw (q.1, q.2) p

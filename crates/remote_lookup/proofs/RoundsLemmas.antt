@@ -1,9 +1,11 @@
 -- Round after round: what the rounds come to.
-use Rattle.std.proofs.Common.{◌≡◌, ◌≢◌, inl, inr, ℕ, ◌+◌, ◌<◌, Bool, true, false, cond, List, [], ◌∷◌, ◌++◌, length, Option, Some, None, refl, ap, sym, ◌∙◌, subst, arith}
-use Rattle.std.specs.Prelude.{◌&&◌, ◌||◌, ◌==◌, ℤ, nat_lt, not, filter, All, slice_get, IfSome, Result, Ok, Err}
+use Rattle.std.proofs.Common.{◌≡◌, ◌≢◌, inl, inr, ℕ, ◌+◌, ◌<◌, ◌≤◌, Bool, true, false, cond, List, [], ◌∷◌, ◌++◌, get_or, length, Option, Some, None, refl, ap, sym, ◌∙◌, subst, arith}
+use Rattle.std.specs.Prelude.{◌&&◌, ◌||◌, ◌==◌, ℤ, nat_lt, not, filter, All, slice_get, Result, Ok, Err}
 use Rattle.std.specs.Option.{option_map_or}
 use Rattle.std.proofs.lemmas.Bool.{false≢true}
 use Rattle.std.proofs.lemmas.List.{length-map}
+use Rattle.std.proofs.lemmas.List.Elements.{All-nil}
+use Rattle.std.proofs.lemmas.Option.{slice_get-get_or}
 use Rattle.outside.specs.Files.{File}
 use Rattle.sq_value.specs.Relation.{Relation}
 use Rattle.sq_value.specs.declared.value.Value.{Value}
@@ -12,13 +14,13 @@ use Rattle.sq_expr.specs.declared.block.Block.{Block}
 use Rattle.eddy_meaning.proofs.MatchLemmas.{Contains-here}
 use Rattle.remote_lookup.specs.Asked.{AreFresh}
 use Rattle.remote_lookup.specs.Filled.{keys_at}
-use Rattle.remote_lookup.specs.KeyFiles.{key_file_of}
+use Rattle.remote_lookup.specs.KeyFiles.{KeyBytes, key_file_of}
 use Rattle.remote_lookup.specs.Loaded.{MayRefuse}
 use Rattle.remote_lookup.specs.Needed.{IsAskedFor}
 use Rattle.remote_lookup.specs.Reading.{MayStopIn}
 use Rattle.remote_lookup.specs.Rounds.{AreAskedBy, AreOrdered, Breaks, Cause, Comes, Crowds, Ends, Goes, Here, Later, Reaches, TooLong, Bad, crowded, fault_at, fault_of, first_fault, lists_key, row_count_of, rows_of_file}
 use Rattle.remote_lookup.specs.Asking.{AreSpare}
-use Rattle.remote_lookup.specs.Working.{HaveLoaded, IsEntry, IsStored, IsStoredIn, IsTallyOf, IsTrueOf, IsWork, MeansIn, crowded_with, keys_at_remote, known}
+use Rattle.remote_lookup.specs.Working.{AreFound, AreStored, FirstFaultIs, HasCome, HaveLoaded, IsEntry, IsFound, IsTallyOf, IsTrueOf, IsWork, Means, OverKeys, crowded_with, keys_at_remote, known}
 use Rattle.remote_lookup.specs.declared.remote.Remote.{Remote}
 use Rattle.remote_lookup.specs.declared.remote.RemoteKey.{RemoteKey}
 use Rattle.remote_lookup.specs.declared.remote.RemoteFault.{RemoteFault}
@@ -28,7 +30,7 @@ use Rattle.remote_lookup.specs.declared.rounds.Work.{Work}
 use Rattle.remote_lookup.proofs.CountLemmas.{first_found, first_none}
 use Rattle.remote_lookup.proofs.CrowdLemmas.{counted}
 use Rattle.remote_lookup.proofs.FreshLemmas.{all_have, all_held, crowded_by, fresh_asked, fresh_new, news, none_fresh, same_sets}
-use Rattle.remote_lookup.proofs.PlaceLemmas.{if_some}
+use Rattle.remote_lookup.proofs.GivenLemmas.{given_any, over_loaded}
 use Rattle.remote_lookup.proofs.QueryLemmas.{element}
 use Rattle.remote_lookup.proofs.RoundLemmas.{held_is_in}
 
@@ -106,19 +108,17 @@ module _ (gives : ℕ → Value → Value → Truth) (block : Block) (tables : L
     there = λ remote key h. work.there remote key (ap (λ (l : List RemoteKey). lists_key l remote key) (sym taken.all) ∙ h);
   }
 
-  pub taken_means : (held : Option (List File)) (w v : Work) → HaveTaken w v → MeansIn gives block tables remotes held w → MeansIn gives block tables remotes held v
-  taken_means held w v taken h = if_some held each h
+  pub taken_true : (file : ℕ → ℤ → Result (List (List Value)) Cause) (w v : Work) → HaveTaken w v → IsTrueOf gives block tables remotes file w → IsTrueOf gives block tables remotes file v
+  taken_true file w v taken true' remote key = (
+    λ h. subst For (sym taken.loaded) ((true' remote key).0 (ap (λ (l : List RemoteKey). lists_key l remote key) (sym taken.all) ∙ h)),
+    λ h. ap (λ (l : List RemoteKey). lists_key l remote key) taken.all ∙ (true' remote key).1 (subst For taken.loaded h),
+  )
     where
-      each : (files : List File) → IsTrueOf gives block tables remotes (key_file_of tables remotes files) w → IsTrueOf gives block tables remotes (key_file_of tables remotes files) v
-      each files true' = record {
-        stored = subst (All (IsStored (key_file_of tables remotes files))) (sym taken.loaded) true'.stored;
-        asked = λ remote key. (
-          λ h. subst (λ (l : List (RemoteKey × Relation)). IsAskedFor gives block tables remotes (λ r k. rows_of_file (key_file_of tables remotes files r k)) (lists_key (known l)) remote key) (sym taken.loaded)
-              ((true'.asked remote key).0 (ap (λ (l : List RemoteKey). lists_key l remote key) (sym taken.all) ∙ h)),
-          λ h. ap (λ (l : List RemoteKey). lists_key l remote key) taken.all
-              ∙ (true'.asked remote key).1 (subst (λ (l : List (RemoteKey × Relation)). IsAskedFor gives block tables remotes (λ r k. rows_of_file (key_file_of tables remotes files r k)) (lists_key (known l)) remote key) taken.loaded h),
-        );
-      }
+      For : List (RemoteKey × Relation) → Type 0
+      For l = IsAskedFor gives block tables remotes (λ r k. rows_of_file (file r k)) (lists_key (known l)) remote key
+
+  pub taken_means : (w v : Work) → HaveTaken w v → Means gives block tables remotes w → Means gives block tables remotes v
+  taken_means w v taken means file stored = taken_true file w v taken (means file (subst (AreStored file) taken.loaded stored))
 
   -- behind a round another one is due
   pub grown_by : (held : Option (List File)) (v x : Work) (keys : List RemoteKey) → HaveLoaded gives block tables remotes held keys v x → length x.loaded ≡ length v.loaded + length keys
@@ -176,10 +176,7 @@ module _ (gives : ℕ → Value → Value → Truth) (block : Block) (tables : L
           ∙ ap (λ (l : List (RemoteKey × Relation)). lists_key (known l) remote key || lists_key keys remote key) (sym have.loaded)
           ∙ sym (one.joined.has remote key)
 
-  module _ (files : List File) where
-    abbrev file : ℕ → ℤ → Result (List (List Value)) Cause
-    file = key_file_of tables remotes files
-
+  module _ (file : ℕ → ℤ → Result (List (List Value)) Cause) where
     abbrev Comes' : List RemoteKey → Result (List RemoteKey) RemoteFault → Type 0
     Comes' keys due = Comes gives block tables remotes file keys due
 
@@ -190,7 +187,7 @@ module _ (gives : ℕ → Value → Value → Truth) (block : Block) (tables : L
     True' w = IsTrueOf gives block tables remotes file w
 
     asked_by : (w : Work) → IsDue w → True' w → AreAskedBy gives block tables remotes file (known w.loaded) w.asked.all
-    asked_by w due true' = record { ordered = due.work.asked; each = true'.asked }
+    asked_by w due true' = record { ordered = due.work.asked; each = true' }
 
     -- where nothing is fresh, the rounds end
     pub ends : (w : Work) → IsDue w → True' w → w.asked.fresh ≡ [] → Comes' (known w.loaded) (Ok (known w.loaded))
@@ -258,84 +255,114 @@ module _ (gives : ℕ → Value → Value → Truth) (block : Block) (tables : L
         by (Some f) is again = of_file (file k.remote k.key) (is ∙ sym (first_found file known' k keys f is) ∙ e)
         by None is again = again (sym (first_none file known' k keys is) ∙ e)
 
-    -- a refusal that the rounds come to may come
-    may : (f : RemoteFault) → ((at : RemoteKey) → f ≢ fault.Read at) → Comes' [] (Err f) → MayRefuse gives block tables remotes files f
-    may (fault.Read at) apart comes = absurd (apart at refl)
-    may (fault.TooLong at) apart comes = comes
-    may (fault.BadFile at why) apart comes = comes
-    may (fault.TooManyKeys r) apart comes = comes
-    may (fault.TooManyRows r) apart comes = comes
-    may fault.Memory apart comes = tt
+  -- a refusal that the rounds come to may come
+  may : (found : KeyBytes) (f : RemoteFault) → ((at : RemoteKey) → f ≢ fault.Read at) → Comes' (key_file_of tables remotes found) [] (Err f) → MayRefuse gives block tables remotes found f
+  may found (fault.Read at) apart comes = absurd (apart at refl)
+  may found (fault.TooLong at) apart comes = comes
+  may found (fault.BadFile at why) apart comes = comes
+  may found (fault.TooManyKeys r) apart comes = comes
+  may found (fault.TooManyRows r) apart comes = comes
+  may found fault.Memory apart comes = tt
 
-    pub may_crowd : (r : ℕ) → Comes' [] (Err (fault.TooManyKeys r)) → MayRefuse gives block tables remotes files (fault.TooManyKeys r)
-    may_crowd r comes = comes
+  -- the rounds so far, where the files are these: what comes of the later ones comes of all
+  pub record AreSoFar (file : ℕ → ℤ → Result (List (List Value)) Cause) (w : Work) : Type 0 where
+    pub is : IsTrueOf gives block tables remotes file w
+    pub comes : (due : Result (List RemoteKey) RemoteFault) → Comes gives block tables remotes file (known w.loaded) due → Comes gives block tables remotes file [] due
+    pub reaches : (at : RemoteKey) → Reaches gives block tables remotes file (known w.loaded) at → Reaches gives block tables remotes file [] at
 
-  -- the rounds so far: what comes of the later ones comes of all
-  pub record AreSoFar (files : List File) (w : Work) : Type 0 where
-    pub is : IsTrueOf gives block tables remotes (key_file_of tables remotes files) w
-    pub comes : (due : Result (List RemoteKey) RemoteFault) → Comes gives block tables remotes (key_file_of tables remotes files) (known w.loaded) due
-        → Comes gives block tables remotes (key_file_of tables remotes files) [] due
-    pub reaches : (at : RemoteKey) → Reaches gives block tables remotes (key_file_of tables remotes files) (known w.loaded) at
-        → Reaches gives block tables remotes (key_file_of tables remotes files) [] at
+  -- whatever the files are, where what is loaded are their rows
+  abbrev pub SoFar : Work → Type 0
+  SoFar w = (file : ℕ → ℤ → Result (List (List Value)) Cause) → AreStored file w.loaded → AreSoFar file w
 
-  abbrev pub SoFarIn : Option (List File) → Work → Type 0
-  SoFarIn held w = IfSome held (λ files. AreSoFar files w)
-
-  pub so_far_begun : (held : Option (List File)) (w : Work) → w.loaded ≡ [] → MeansIn gives block tables remotes held w → SoFarIn held w
-  so_far_begun held w none means = if_some held (λ files is. record {
-    is = is;
-    comes = λ due h. subst (λ (l : List (RemoteKey × Relation)). Comes gives block tables remotes (key_file_of tables remotes files) (known l) due) none h;
-    reaches = λ at h. subst (λ (l : List (RemoteKey × Relation)). Reaches gives block tables remotes (key_file_of tables remotes files) (known l) at) none h;
-  }) means
+  pub so_far_begun : (w : Work) → w.loaded ≡ [] → Means gives block tables remotes w → SoFar w
+  so_far_begun w none means file stored = record {
+    is = means file stored;
+    comes = λ due h. subst (λ (l : List (RemoteKey × Relation)). Comes gives block tables remotes file (known l) due) none h;
+    reaches = λ at h. subst (λ (l : List (RemoteKey × Relation)). Reaches gives block tables remotes file (known l) at) none h;
+  }
 
   pub so_far_next : (held : Option (List File)) (w v x : Work) (keys : List RemoteKey) → IsDue w → AreTaken w keys → HaveTaken w v → HaveLoaded gives block tables remotes held keys v x
-      → crowded_with w.tallies.items keys ≡ None → SoFarIn held w → SoFarIn held x
-  so_far_next None w v x keys due taken have one crowd h = tt
-  so_far_next (Some files) w v x keys due taken have one crowd h =
-      let stored : All (IsStored (key_file_of tables remotes files)) v.loaded = subst (All (IsStored (key_file_of tables remotes files))) (sym have.loaded) h.is.stored in
-      let first : first_fault (key_file_of tables remotes files) (known w.loaded) keys ≡ None =
-      ap (λ (l : List (RemoteKey × Relation)). first_fault (key_file_of tables remotes files) (known l) keys) (sym have.loaded) ∙ one.whole stored in
+      → crowded_with w.tallies.items keys ≡ None → SoFar w → SoFar x
+  so_far_next held w v x keys due taken have one crowd so_far file stored =
+      let h = so_far file (subst (AreStored file) have.loaded (one.still file stored)) in
+      let first : first_fault file (known w.loaded) keys ≡ None =
+      ap (λ (l : List (RemoteKey × Relation)). first_fault file (known l) keys) (sym have.loaded) ∙ one.whole file stored in
       record {
-        is = one.means (taken_means (Some files) w v have h.is);
-        comes = λ due' rest. h.comes due' (goes files (Some files) w v x keys due taken have one h.is crowd first due' rest);
-        reaches = λ at rest. h.reaches at (goes_on files (Some files) w v x keys due taken have one h.is crowd first at rest);
+        is = one.means (taken_means w v have (λ any before. (so_far any before).is)) file stored;
+        comes = λ due' rest. h.comes due' (goes file held w v x keys due taken have one h.is crowd first due' rest);
+        reaches = λ at rest. h.reaches at (goes_on file held w v x keys due taken have one h.is crowd first at rest);
       }
 
+  -- at first a round is due, and nothing is loaded
+  pub due_begun : (w : Work) → IsWork tables remotes w → w.loaded ≡ [] → AreFresh [] w.asked.all w.asked.fresh → IsDue w
+  due_begun w work none fresh = record {
+    work = work;
+    fresh = subst (λ (l : List (RemoteKey × Relation)). AreFresh (known l) w.asked.all w.asked.fresh) (sym none) fresh;
+  }
+
+  pub found_begun : (held : Option (List File)) (w : Work) → w.loaded ≡ [] → AreFound tables remotes held w.loaded
+  found_begun held w none = subst (AreFound tables remotes held) (sym none) (All-nil (IsFound tables remotes held))
+
+  -- each remote has few keys
+  pub few_keys : (w : Work) → IsWork tables remotes w → All (λ (t : Tally). t.keys ≤ 10000) w.tallies.items
+  few_keys w work k d low = (work.tallies k (get_or w.tallies.items k d) (slice_get-get_or w.tallies.items k d low)).few_keys
+
+  -- what was found is found still
+  pub found_next : (held : Option (List File)) (w v x : Work) (keys : List RemoteKey) → HaveTaken w v → HaveLoaded gives block tables remotes held keys v x
+      → AreFound tables remotes held w.loaded → AreFound tables remotes held x.loaded
+  found_next held w v x keys have one found = one.found (subst (AreFound tables remotes held) (sym have.loaded) found)
+
   -- at the end
-  pub comes_to : (held : Option (List File)) (w : Work) → IsDue w → w.asked.fresh ≡ [] → SoFarIn held w
-      → IfSome held (λ files. Comes gives block tables remotes (key_file_of tables remotes files) [] (Ok (known w.loaded)) × All (IsStored (key_file_of tables remotes files)) w.loaded)
-  comes_to None w due none h = tt
-  comes_to (Some files) w due none h = (h.comes (Ok (known w.loaded)) (ends files w due h.is none), h.is.stored)
+  pub comes_to : (w : Work) → IsDue w → w.asked.fresh ≡ [] → SoFar w → HasCome gives block tables remotes w
+  comes_to w due none so_far file stored = (so_far file stored).comes (Ok (known w.loaded)) (ends file w due (so_far file stored).is none)
 
   -- where a remote is crowded
-  pub may_be_crowded : (held : Option (List File)) (w : Work) (keys : List RemoteKey) (r : ℕ) → IsDue w → AreTaken w keys → crowded_with w.tallies.items keys ≡ Some r → SoFarIn held w
-      → IfSome held (λ files. MayRefuse gives block tables remotes files (fault.TooManyKeys r))
-  may_be_crowded None w keys r due taken crowd h = tt
-  may_be_crowded (Some files) w keys r due taken crowd h = h.comes (Err (fault.TooManyKeys r)) (crowds files w keys r due taken h.is crowd)
+  pub may_be_crowded : (held : Option (List File)) (w : Work) (keys : List RemoteKey) (r : ℕ) → IsDue w → AreTaken w keys → crowded_with w.tallies.items keys ≡ Some r
+      → AreFound tables remotes held w.loaded → SoFar w → OverKeys remotes held (λ found. MayRefuse gives block tables remotes found (fault.TooManyKeys r))
+  may_be_crowded held w keys r due taken crowd found so_far =
+      let over = over_loaded tables remotes held w.loaded due.work.ordered found in
+      let file : ℕ → ℤ → Result (List (List Value)) Cause = key_file_of tables remotes over.0 in
+      let h = so_far file over.2 in
+      (over.0, over.1, h.comes (Err (fault.TooManyKeys r)) (crowds file w keys r due taken h.is crowd))
 
   -- where a round stops
   pub may_stop : (held : Option (List File)) (before now : ℕ) (w v : Work) (keys : List RemoteKey) (f : RemoteFault) → IsDue w → AreTaken w keys → HaveTaken w v
       → crowded_with w.tallies.items keys ≡ None
-      → (IsStoredIn tables remotes held v.loaded → MayStopIn held before now (λ files all. first_fault (key_file_of tables remotes files) (known v.loaded) all) keys f)
-      → SoFarIn held w → IfSome held (λ files. MayRefuse gives block tables remotes files f)
-  may_stop None before now w v keys f due taken have crowd stops h = tt
-  may_stop (Some files) before now w v keys f due taken have crowd stops h =
-      by (stops (subst (All (IsStored (key_file_of tables remotes files))) (sym have.loaded) h.is.stored))
+      → (AreFound tables remotes held v.loaded → MayStopIn before now (FirstFaultIs tables remotes held v.loaded) keys f)
+      → AreFound tables remotes held w.loaded → SoFar w → OverKeys remotes held (λ found. MayRefuse gives block tables remotes found f)
+  may_stop held before now w v keys f due taken have crowd stops found so_far = by (stops (subst (AreFound tables remotes held) (sym have.loaded) found))
     where
-      same : (all : List RemoteKey) → first_fault (key_file_of tables remotes files) (known w.loaded) all ≡ first_fault (key_file_of tables remotes files) (known v.loaded) all
-      same all = ap (λ (l : List (RemoteKey × Relation)). first_fault (key_file_of tables remotes files) (known l) all) (sym have.loaded)
+      -- the first fault beside what was loaded before
+      known_before : (file : ℕ → ℤ → Result (List (List Value)) Cause) (all : List RemoteKey) → first_fault file (known w.loaded) all ≡ first_fault file (known v.loaded) all
+      known_before file all = ap (λ (l : List (RemoteKey × Relation)). first_fault file (known l) all) (sym have.loaded)
 
-      of_read : (at : RemoteKey) → f ≡ fault.Read at → Reaches gives block tables remotes (key_file_of tables remotes files) [] at → MayRefuse gives block tables remotes files f
-      of_read at is reached = subst (λ (g : RemoteFault). MayRefuse gives block tables remotes files g) (sym is) reached
+      of_read : (at : RemoteKey) (front rest : List RemoteKey) → f ≡ fault.Read at → keys ≡ front ++ at ∷ rest → FirstFaultIs tables remotes held v.loaded front None
+          → OverKeys remotes held (λ some. MayRefuse gives block tables remotes some f)
+      of_read at front rest is split over =
+          let file : ℕ → ℤ → Result (List (List Value)) Cause = key_file_of tables remotes over.0 in
+          let h = so_far file (subst (AreStored file) have.loaded over.2) in (
+            over.0,
+            over.1,
+            subst (λ (g : RemoteFault). MayRefuse gives block tables remotes over.0 g) (sym is)
+                (h.reaches at (here file w keys front rest at due taken h.is crowd split (known_before file front ∙ over.3))),
+          )
 
-      of_memory : f ≡ fault.Memory → MayRefuse gives block tables remotes files f
-      of_memory is = subst (λ (g : RemoteFault). MayRefuse gives block tables remotes files g) (sym is) tt
+      of_memory : f ≡ fault.Memory → OverKeys remotes held (λ some. MayRefuse gives block tables remotes some f)
+      of_memory is =
+          given_any tables remotes held (λ some. MayRefuse gives block tables remotes some f) (λ some. subst (λ (g : RemoteFault). MayRefuse gives block tables remotes some g) (sym is) tt)
 
-      by : MayStopIn (Some files) before now (λ some all. first_fault (key_file_of tables remotes some) (known v.loaded) all) keys f → MayRefuse gives block tables remotes files f
-      by (inl read) =
-          of_read read.0 read.3 (h.reaches read.0 (here files w keys read.1 read.2 read.0 due taken h.is crowd read.5 (same read.1 ∙ read.6)))
+      of_first : FirstFaultIs tables remotes held v.loaded keys (Some f) → OverKeys remotes held (λ some. MayRefuse gives block tables remotes some f)
+      of_first over =
+          let file : ℕ → ℤ → Result (List (List Value)) Cause = key_file_of tables remotes over.0 in
+          let h = so_far file (subst (AreStored file) have.loaded over.2) in
+          let first : first_fault file (known w.loaded) keys ≡ Some f = known_before file keys ∙ over.3 in (
+            over.0,
+            over.1,
+            may over.0 f (λ at is. never_read file keys (known w.loaded) at (first ∙ ap (λ (g : RemoteFault). let o : Option RemoteFault = Some g in o) is))
+                (h.comes (Err f) (breaks file w keys f due taken h.is crowd first)),
+          )
+
+      by : MayStopIn before now (FirstFaultIs tables remotes held v.loaded) keys f → OverKeys remotes held (λ some. MayRefuse gives block tables remotes some f)
+      by (inl read) = of_read read.0 read.1 read.2 read.3 read.5 read.6
       by (inr (inl memory)) = of_memory memory
-      by (inr (inr other)) =
-          let first : first_fault (key_file_of tables remotes files) (known w.loaded) keys ≡ Some f = same keys ∙ other.1 in
-          may files f (λ at is. never_read files keys (known w.loaded) at (first ∙ ap (λ (g : RemoteFault). let o : Option RemoteFault = Some g in o) is))
-          (h.comes (Err f) (breaks files w keys f due taken h.is crowd first))
+      by (inr (inr other)) = of_first other.1

@@ -11,7 +11,7 @@ use Rattle.table_csv.specs.declared.fault.TableFault.TheVariants as table
 use Rattle.remote_lookup.specs.KeyFiles.{key_file_of}
 use Rattle.remote_lookup.specs.Reading.{IsRefused, IsRefusal, MayStop, MayStopIn}
 use Rattle.remote_lookup.specs.Rounds.{AreOrdered, Bad, Cause, TooLong, fault_at, fault_of, first_fault, lists_key}
-use Rattle.remote_lookup.specs.Working.{AreJoined, FirstFaultIs, HaveLoaded, IsStoredIn, IsWork, crowded_with, known}
+use Rattle.remote_lookup.specs.Working.{AreJoined, FirstFaultIs, HaveLoaded, IsWork, crowded_with, known}
 use Rattle.remote_lookup.specs.declared.remote.KeyFault.TheVariants as key
 use Rattle.remote_lookup.specs.declared.remote.Remote.{Remote}
 use Rattle.remote_lookup.specs.declared.remote.RemoteKey.{RemoteKey}
@@ -72,8 +72,8 @@ module _ (gives : ℕ → Value → Value → Truth) (block : Block) (tables : L
   abbrev pub Loads : List RemoteKey → Work → Work → Type 0
   Loads keys before after = HaveLoaded gives block tables remotes held keys before after
 
-  abbrev First : List RemoteKey → List RemoteKey → Option RemoteFault → Type 0
-  First loaded keys is = FirstFaultIs tables remotes held loaded keys is
+  abbrev First : Work → List RemoteKey → Option RemoteFault → Type 0
+  First w keys is = FirstFaultIs tables remotes held w.loaded keys is
 
   pub none_loaded : (w : Work) → IsWork tables remotes w → Loads [] w w
   unfolding first_fault
@@ -82,18 +82,10 @@ module _ (gives : ℕ → Value → Value → Truth) (block : Block) (tables : L
     fresh = λ base h. h;
     joined = joined_none (known w.loaded);
     means = λ h. h;
-    stored = λ h. h;
-    whole = λ h. none held;
+    found = λ h. h;
+    still = λ file h. h;
+    whole = λ file h. refl;
   }
-    where
-      none : (o : Option (List File)) → FirstFaultIs tables remotes o (known w.loaded) [] None
-      none None = tt
-      none (Some files) = refl
-
-  both_none : (o : Option (List File)) (a b c keys : List RemoteKey) → AreJoined a b c → FirstFaultIs tables remotes o a b None → FirstFaultIs tables remotes o c keys None
-      → FirstFaultIs tables remotes o a (b ++ keys) None
-  both_none None a b c keys joined one two = tt
-  both_none (Some files) a b c keys joined one two = first_behind (key_file_of tables remotes files) a b c keys joined one ∙ two
 
   -- further keys are loaded behind some
   pub more_loaded : (keys more : List RemoteKey) (a b c : Work) → Loads keys a b → Loads more b c → Loads (keys ++ more) a c
@@ -102,32 +94,34 @@ module _ (gives : ℕ → Value → Value → Truth) (block : Block) (tables : L
     fresh = λ base h. two.fresh base (one.fresh base h);
     joined = joined_more (known a.loaded) keys (known b.loaded) more (known c.loaded) one.joined two.joined;
     means = λ h. two.means (one.means h);
-    stored = λ h. two.stored (one.stored h);
-    whole = λ h. both_none held (known a.loaded) keys (known b.loaded) more one.joined (one.whole h) (two.whole (one.stored h));
+    found = λ h. two.found (one.found h);
+    still = λ file h. one.still file (two.still file h);
+    whole = λ file h. first_behind file (known a.loaded) keys (known b.loaded) more one.joined (one.whole file (two.still file h)) ∙ two.whole file h;
   }
-
-  abbrev Expected : List RemoteKey → List File → List RemoteKey → Option RemoteFault
-  Expected loaded files keys = first_fault (key_file_of tables remotes files) loaded keys
 
   -- what stops the next key stops the round
   pub stops_round : (keys fresh rest : List RemoteKey) (at : RemoteKey) (a b : Work) (before now : ℕ) (f : RemoteFault) → Loads keys a b → fresh ≡ keys ++ at ∷ rest
-      → IsStoredIn tables remotes held a.loaded
-      → MayStop held before now (λ files. Expected (known b.loaded) files (at ∷ [])) at f
-      → MayStopIn held before now (λ files all. Expected (known a.loaded) files all) fresh f
-  stops_round keys fresh rest at a b before now f one split stored h = by h
+      → MayStop before now (First b) at f → MayStopIn before now (First a) fresh f
+  stops_round keys fresh rest at a b before now f one split h = by h
     where
-      found : (o : Option (List File)) → FirstFaultIs tables remotes o (known a.loaded) keys None → IfSome o (λ files. Expected (known b.loaded) files (at ∷ []) ≡ Some f)
-          → IfSome o (λ files. Expected (known a.loaded) files fresh ≡ Some f)
-      found None whole e = tt
-      found (Some files) whole e =
-          ap (first_fault (key_file_of tables remotes files) (known a.loaded)) split
-          ∙ first_behind (key_file_of tables remotes files) (known a.loaded) keys (known b.loaded) (at ∷ rest) one.joined whole
-          ∙ first_of (key_file_of tables remotes files) (known b.loaded) at rest f e
+      before' : First b [] None → First a keys None
+      before' over = (over.0, over.1, one.still (key_file_of tables remotes over.0) over.2, one.whole (key_file_of tables remotes over.0) over.2)
 
-      by : MayStop held before now (λ files. Expected (known b.loaded) files (at ∷ [])) at f → MayStopIn held before now (λ files all. Expected (known a.loaded) files all) fresh f
-      by (inl read) = inl (at, keys, rest, read.0, read.1, split, one.whole stored)
+      found : First b (at ∷ []) (Some f) → First a fresh (Some f)
+      found over =
+          let file : ℕ → ℤ → Result (List (List Value)) Cause = key_file_of tables remotes over.0 in (
+            over.0,
+            over.1,
+            one.still file over.2,
+            ap (first_fault file (known a.loaded)) split
+                ∙ first_behind file (known a.loaded) keys (known b.loaded) (at ∷ rest) one.joined (one.whole file over.2)
+                ∙ first_of file (known b.loaded) at rest f over.3,
+          )
+
+      by : MayStop before now (First b) at f → MayStopIn before now (First a) fresh f
+      by (inl read) = inl (at, keys, rest, read.0, read.1, split, before' read.2)
       by (inr (inl memory)) = inr (inl memory)
-      by (inr (inr other)) = inr (inr (other.0, found held (one.whole stored) other.1))
+      by (inr (inr other)) = inr (inr (other.0, found other.1))
 
   -- the next key of a round is new, and there is room for it
   pub next_new : (fresh : List RemoteKey) (i : ℕ) (at : RemoteKey) (a b : Work) → Loads (take i fresh) a b → AreOrdered fresh → slice_get fresh i ≡ Some at
@@ -192,9 +186,9 @@ refused_keys remotes before now r f is low kept = subst (IsRefused remotes befor
 })
 
 -- a refusal of a key's file
-pub refused_file : (remotes before now : ℕ) (held : Option (List File)) (expected : List File → Cause → Type 0) (at : RemoteKey) (f : RemoteFault) → at.remote < remotes
-    → IsRefusal held before now expected at f → IsRefused remotes before now f
-refused_file remotes before now held expected at f low h = by h
+pub refused_file : (remotes before now : ℕ) (expected : Cause → Type 0) (at : RemoteKey) (f : RemoteFault) → at.remote < remotes
+    → IsRefusal before now expected at f → IsRefused remotes before now f
+refused_file remotes before now expected at f low h = by h
   where
     of_cause : (cause : Cause) → cause ≢ Bad (key.Table table.Memory) → now ≡ before → f ≡ fault_of at cause → IsRefused remotes before now f
     of_cause TooLong apart kept is = subst (IsRefused remotes before now) (sym is) (record {
@@ -210,7 +204,7 @@ refused_file remotes before now held expected at f low h = by h
       no_memory = λ a e. let same : why ≡ key.Table table.Memory = cc in apart (ap Bad same);
     })
 
-    by : IsRefusal held before now expected at f → IsRefused remotes before now f
+    by : IsRefusal before now expected at f → IsRefused remotes before now f
     by (inl read) = subst (IsRefused remotes before now) (sym read.0) (record {
       kept = tt;
       read = λ a e. read.1;

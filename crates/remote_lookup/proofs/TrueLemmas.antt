@@ -2,16 +2,14 @@
 use Rattle.std.proofs.Common.{◌≡◌, ◌⊎◌, inl, inr, ℕ, ◌+◌, ◌<◌, ◌≤◌, Bool, true, false, cond, List, [], ◌∷◌, ◌++◌, length, Option, Some, None, ap, sym, ◌∙◌, subst, arith}
 use Rattle.std.specs.Prelude.{◌↔◌, ℤ, nat_lt, All, slice_get, Result, Ok, Err}
 use Rattle.std.proofs.lemmas.Bool.{lt-ltb, ltb-true, false_from_ne_true}
-use Rattle.outside.specs.Files.{File, lookup}
 use Rattle.sq_value.specs.Relation.{Relation}
-use Rattle.sq_value.specs.declared.table.Column.{Column}
 use Rattle.sq_value.specs.declared.value.Value.{Value}
 use Rattle.sq_value.specs.declared.value.Truth.{Truth}
 use Rattle.sq_expr.specs.declared.block.Block.{Block}
 use Rattle.remote_lookup.specs.Asked.{Grows}
 use Rattle.remote_lookup.specs.Asking.{IsAskedBehind}
 use Rattle.remote_lookup.specs.Asks.{AreAsks}
-use Rattle.remote_lookup.specs.KeyFiles.{table_columns, file_in, key_file_of, key_name, rows_in}
+use Rattle.remote_lookup.specs.KeyFiles.{KeyBytes, table_columns, file_in, key_file_of, rows_in}
 use Rattle.remote_lookup.specs.Needed.{IsAskedFor, IsAskedByFile}
 use Rattle.remote_lookup.specs.Rounds.{Cause, fault_at, fault_of, lists_key, row_count_of, rows_of_file}
 use Rattle.remote_lookup.specs.Working.{AreJoined, IsStored, known, rows_loaded}
@@ -27,14 +25,14 @@ use Rattle.remote_lookup.proofs.JoinLemmas.{has_append}
 use Rattle.remote_lookup.proofs.MeantLemmas.{asked_behind}
 use Rattle.remote_lookup.proofs.RoundLemmas.{asked_more}
 
--- the file of a key of a remote that is there
-pub file_is : (tables : List Relation) (remotes : List Remote) (files : List File) (at : RemoteKey) (r : Remote) (columns : List Column)
-    → slice_get remotes at.remote ≡ Some r → columns ≡ table_columns tables r.table → (x : Result (List (List Value)) Cause)
-    → rows_in columns r.column at.key (lookup files (key_name r.prefix at.key)) ≡ x → key_file_of tables remotes files at.remote at.key ≡ x
+-- the file of a key of a remote that is there, by what is given of it
+pub file_is : (tables : List Relation) (remotes : List Remote) (found : KeyBytes) (at : RemoteKey) (r : Remote) (bytes : Option (List ℕ))
+    → slice_get remotes at.remote ≡ Some r → found at.remote at.key ≡ bytes → (x : Result (List (List Value)) Cause)
+    → rows_in (table_columns tables r.table) r.column at.key bytes ≡ x → key_file_of tables remotes found at.remote at.key ≡ x
 unfolding key_file_of
-file_is tables remotes files at r columns is same x rows =
-    ap (file_in tables files at.key) is
-    ∙ ap (λ (cs : List Column). rows_in cs r.column at.key (lookup files (key_name r.prefix at.key))) (sym same)
+file_is tables remotes found at r bytes is given x rows =
+    ap (file_in tables (found at.remote at.key) at.key) is
+    ∙ ap (rows_in (table_columns tables r.table) r.column at.key) given
     ∙ rows
 
 module _ (gives : ℕ → Value → Value → Truth) (block : Block) (tables : List Relation) (remotes : List Remote) (asks : List Ask)

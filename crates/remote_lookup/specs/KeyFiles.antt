@@ -1,5 +1,6 @@
--- What the file of a key is: its rows, none where it isn't there, or why it is no part of its remote.
-use Rattle.std.specs.Prelude.{ℕ, ◌+◌, nat_lt, Bool, false, List, [], ◌∷◌, ◌++◌, length, codes, Option, Some, None, Result, Ok, Err, ℤ, slice_get, if◌then◌else◌}
+-- What is given of the files of keys, and what the file of a key is: its rows, none where it is missing, or why it is
+-- no part of its remote.
+use Rattle.std.specs.Prelude.{◌≡◌, ℕ, ◌+◌, nat_lt, Bool, false, List, [], ◌∷◌, ◌++◌, length, codes, Option, Some, None, Result, Ok, Err, ℤ, slice_get, if◌then◌else◌}
 use Rattle.std.specs.Fmt.{signed_decimal}
 use Rattle.std.specs.Option.{option_map_or}
 use Rattle.std.specs.Ordering.{int_eq}
@@ -18,6 +19,16 @@ use Rattle.remote_lookup.specs.declared.remote.Remote.{Remote}
 -- the name of a key's file
 abbrev pub key_name : List ℕ → ℤ → List ℕ
 key_name prefix key = prefix ++ signed_decimal key ++ codes ".csv"
+
+-- what is given of keys' files: the bytes of the file of each key of each remote, or that it is missing
+abbrev pub KeyBytes : Type 0
+KeyBytes = ℕ → ℤ → Option (List ℕ)
+
+-- what is given of them is what a folder holds, where it tells that
+abbrev pub AreKeysGiven : List Remote → Option (List File) → KeyBytes → Type 0
+AreKeysGiven remotes holds found =
+    (files : List File) → holds ≡ Some files → (remote : ℕ) (key : ℤ) (r : Remote) → slice_get remotes remote ≡ Some r
+    → found remote key ≡ lookup files (key_name r.prefix key)
 
 -- whether a value is this integer
 abbrev pub is_that_integer : ℤ → Option Value → Bool
@@ -52,11 +63,10 @@ rows_in columns column key (Some bytes) =
 abbrev pub table_columns : List Relation → ℕ → List Column
 table_columns tables table = option_map_or (λ (t : Relation). t.columns) (slice_get tables table) []
 
-abbrev pub file_in : List Relation → List File → ℤ → Option Remote → Result (List (List Value)) Cause
-file_in tables files key None = Ok []
-file_in tables files key (Some r) = rows_in (table_columns tables r.table) r.column key
-    (lookup files (key_name r.prefix key))
+abbrev pub file_in : List Relation → Option (List ℕ) → ℤ → Option Remote → Result (List (List Value)) Cause
+file_in tables found key None = Ok []
+file_in tables found key (Some r) = rows_in (table_columns tables r.table) r.column key found
 
--- what the file of a key of a remote is
-unfoldable pub key_file_of : List Relation → List Remote → List File → ℕ → ℤ → Result (List (List Value)) Cause
-key_file_of tables remotes files remote key = file_in tables files key (slice_get remotes remote)
+-- what the file of a key of a remote is, by what is given of keys' files
+unfoldable pub key_file_of : List Relation → List Remote → KeyBytes → ℕ → ℤ → Result (List (List Value)) Cause
+key_file_of tables remotes found remote key = file_in tables (found remote key) key (slice_get remotes remote)

@@ -1,5 +1,5 @@
--- What loading the needed keys needs and gives, and when it may refuse.
-use Rattle.std.specs.Prelude.{◌≡◌, ◌≢◌, ℕ, ◌+◌, ◌<◌, List, [], ◌∷◌, Option, Some, None, Ok, Err, AllPairs, All, ⊤, ℤ, slice_get, IfSome}
+-- What loading the needed keys needs and gives, and when it may refuse, by what is given of keys' files.
+use Rattle.std.specs.Prelude.{◌≡◌, ◌≢◌, ℕ, ◌+◌, ◌<◌, List, [], ◌∷◌, Option, Some, None, Result, Ok, Err, AllPairs, All, ⊤, ℤ, slice_get, IfSome, IfOk, IfErr}
 use Rattle.std.specs.List.{flat_map}
 use Rattle.outside.specs.Files.{File}
 use Rattle.sq_value.specs.Relation.{Relation}
@@ -11,7 +11,8 @@ use Rattle.sq_expr.specs.declared.block.Block.{Block}
 use Rattle.remote_lookup.specs.Filled.{keys_at}
 use Rattle.remote_lookup.specs.Needed.{AreNeeded, AreRemotes}
 use Rattle.remote_lookup.specs.Rounds.{Comes, Reaches, rows_of_file}
-use Rattle.remote_lookup.specs.KeyFiles.{key_file_of, table_columns}
+use Rattle.remote_lookup.specs.KeyFiles.{AreKeysGiven, KeyBytes, key_file_of, table_columns}
+use Rattle.remote_lookup.specs.declared.remote.Loaded.{Loaded}
 use Rattle.remote_lookup.specs.declared.remote.Remote.{Remote}
 use Rattle.remote_lookup.specs.declared.remote.RemoteKey.{RemoteKey}
 use Rattle.remote_lookup.specs.declared.remote.RemoteFault.{RemoteFault}
@@ -45,26 +46,36 @@ remote_tables rows tables keys remotes = remote_tables_from rows tables keys 0 r
 -- the keys are what the rounds come to, and so the needed ones, and the tables are those of the keys
 pub record AreLoaded (gives : ℕ → Value → Value → Truth) (block : Block) (tables : List Relation)
     (remotes : List Remote)
-    (files : List File) (keys : List RemoteKey) (loaded : List Relation) : Type 0 where
-  pub comes : Comes gives block tables remotes (key_file_of tables remotes files) [] (Ok keys)
-  pub needed : AreNeeded gives block tables remotes (λ r k. rows_of_file (key_file_of tables remotes files r k)) keys
-  pub filled : loaded ≡ remote_tables (λ r k. rows_of_file (key_file_of tables remotes files r k)) tables keys remotes
+    (found : KeyBytes) (keys : List RemoteKey) (loaded : List Relation) : Type 0 where
+  pub comes : Comes gives block tables remotes (key_file_of tables remotes found) [] (Ok keys)
+  pub needed : AreNeeded gives block tables remotes (λ r k. rows_of_file (key_file_of tables remotes found r k)) keys
+  pub filled : loaded ≡ remote_tables (λ r k. rows_of_file (key_file_of tables remotes found r k)) tables keys remotes
 
 -- a refusal: a failed read is that of a key that the rounds reach; want of memory may come at any time; any other is
 -- what the rounds come to
-abbrev pub MayRefuse : (ℕ → Value → Value → Truth) → Block → List Relation → List Remote → List File → RemoteFault
+abbrev pub MayRefuse : (ℕ → Value → Value → Truth) → Block → List Relation → List Remote → KeyBytes → RemoteFault
     → Type 0
-MayRefuse gives block tables remotes files (fault.Read at) = Reaches gives block tables remotes
-    (key_file_of tables remotes files) [] at
-MayRefuse gives block tables remotes files (fault.TooLong at) =
-    Comes gives block tables remotes (key_file_of tables remotes files) [] (Err (fault.TooLong at))
-MayRefuse gives block tables remotes files (fault.BadFile at why) =
-    Comes gives block tables remotes (key_file_of tables remotes files) [] (Err (fault.BadFile at why))
-MayRefuse gives block tables remotes files (fault.TooManyKeys remote) =
-    Comes gives block tables remotes (key_file_of tables remotes files) [] (Err (fault.TooManyKeys remote))
-MayRefuse gives block tables remotes files (fault.TooManyRows remote) =
-    Comes gives block tables remotes (key_file_of tables remotes files) [] (Err (fault.TooManyRows remote))
-MayRefuse gives block tables remotes files fault.Memory = ⊤
+MayRefuse gives block tables remotes found (fault.Read at) = Reaches gives block tables remotes
+    (key_file_of tables remotes found) [] at
+MayRefuse gives block tables remotes found (fault.TooLong at) =
+    Comes gives block tables remotes (key_file_of tables remotes found) [] (Err (fault.TooLong at))
+MayRefuse gives block tables remotes found (fault.BadFile at why) =
+    Comes gives block tables remotes (key_file_of tables remotes found) [] (Err (fault.BadFile at why))
+MayRefuse gives block tables remotes found (fault.TooManyKeys remote) =
+    Comes gives block tables remotes (key_file_of tables remotes found) [] (Err (fault.TooManyKeys remote))
+MayRefuse gives block tables remotes found (fault.TooManyRows remote) =
+    Comes gives block tables remotes (key_file_of tables remotes found) [] (Err (fault.TooManyRows remote))
+MayRefuse gives block tables remotes found fault.Memory = ⊤
+
+-- what is answered over what is given of keys' files, which is what a folder holds, where it tells that: what is
+-- loaded, or a refusal
+pub record AnswersOver (gives : ℕ → Value → Value → Truth) (block : Block) (tables : List Relation)
+    (remotes : List Remote)
+    (holds : Option (List File)) (answer : Result Loaded RemoteFault) : Type 0 where
+  pub found : KeyBytes
+  pub agrees : AreKeysGiven remotes holds found
+  pub loaded : IfOk answer (λ l. AreLoaded gives block tables remotes found l.keys.items l.tables.items)
+  pub refused : IfErr answer (MayRefuse gives block tables remotes found)
 
 -- what holds of a refusal that is neither a failed read nor want of memory
 abbrev pub UnlessReadOrMemory : RemoteFault → Type 0 → Type 0

@@ -1,5 +1,5 @@
 -- For the proofs: what holds between two loads.
-use Rattle.std.specs.Prelude.{◌≡◌, ◌↔◌, ◌||◌, ℕ, ℤ, ◌+◌, ◌<◌, ◌≤◌, ◌==◌, nat_lt, true, List, [], length, map, filter, All, Option, Some, None, Result, Ok, slice_get, IfSome}
+use Rattle.std.specs.Prelude.{◌≡◌, ◌↔◌, ◌||◌, ℕ, ℤ, ◌+◌, ◌<◌, ◌≤◌, ◌==◌, nat_lt, true, List, [], length, map, filter, All, Option, Some, None, Result, Ok, slice_get}
 use Rattle.std.specs.List.{flat_map, find, range_with_len}
 use Rattle.std.specs.Option.{option_map_or}
 use Rattle.outside.specs.Files.{File}
@@ -10,9 +10,10 @@ use Rattle.sq_expr.specs.declared.block.Block.{Block}
 use Rattle.remote_lookup.specs.Asked.{AreFresh}
 use Rattle.remote_lookup.specs.Asking.{AreSpare}
 use Rattle.remote_lookup.specs.Filled.{keys_at}
-use Rattle.remote_lookup.specs.KeyFiles.{table_columns, key_file_of}
+use Rattle.remote_lookup.specs.KeyFiles.{AreKeysGiven, KeyBytes, key_file_of, key_name, rows_in, table_columns}
 use Rattle.remote_lookup.specs.Needed.{IsAskedFor}
-use Rattle.remote_lookup.specs.Rounds.{AreOrdered, Cause, first_fault, lists_key, row_count_of, rows_of_file}
+use Rattle.remote_lookup.specs.Reading.{OverFile}
+use Rattle.remote_lookup.specs.Rounds.{AreOrdered, Cause, Comes, first_fault, lists_key, row_count_of, rows_of_file}
 use Rattle.remote_lookup.specs.declared.remote.Remote.{Remote}
 use Rattle.remote_lookup.specs.declared.remote.RemoteFault.{RemoteFault}
 use Rattle.remote_lookup.specs.declared.remote.RemoteKey.{RemoteKey}
@@ -67,32 +68,62 @@ pub record IsWork (tables : List Relation) (remotes : List Remote) (w : Work) : 
   pub asked : AreOrdered w.asked.all
   pub there : (remote : ℕ) (key : ℤ) → lists_key w.asked.all remote key ≡ true → remote < length remotes
 
--- what the work means, where the files are these: what is loaded are their rows, and what is asked for is what these
--- ask for
-pub record IsTrueOf (gives : ℕ → Value → Value → Truth) (block : Block) (tables : List Relation) (remotes : List Remote)
-    (file : ℕ → ℤ → Result (List (List Value)) Cause) (w : Work) : Type 0 where
-  pub stored : All (IsStored file) w.loaded
-  pub asked : (remote : ℕ) (key : ℤ) → ((lists_key w.asked.all remote key ≡ true)
-      ↔ IsAskedFor gives block tables remotes (λ r k. rows_of_file (file r k)) (lists_key (known w.loaded)) remote key)
+-- so it is of all that is loaded
+abbrev pub AreStored : (ℕ → ℤ → Result (List (List Value)) Cause) → List (RemoteKey × Relation) → Type 0
+AreStored file entries = All (IsStored file) entries
 
--- all that is loaded is what the folder's files have, if it tells them
-abbrev pub IsStoredIn : List Relation → List Remote → Option (List File) → List (RemoteKey × Relation) → Type 0
-IsStoredIn tables remotes held entries = IfSome held
-    (λ files. All (IsStored (key_file_of tables remotes files)) entries)
+-- what is asked for is what the rows of the loaded keys ask for, where the files are these
+abbrev pub IsTrueOf : (ℕ → Value → Value → Truth) → Block → List Relation → List Remote
+    → (ℕ → ℤ → Result (List (List Value)) Cause) → Work → Type 0
+IsTrueOf gives block tables remotes file w =
+    (remote : ℕ) (key : ℤ) → ((lists_key w.asked.all remote key ≡ true)
+    ↔ IsAskedFor gives block tables remotes (λ r k. rows_of_file (file r k)) (lists_key (known w.loaded)) remote key)
 
--- what the work means where the folder tells its files
-abbrev pub MeansIn : (ℕ → Value → Value → Truth) → Block → List Relation → List Remote → Option (List File) → Work
+-- what the work means: so it is whatever the files are, where what is loaded are their rows
+abbrev pub Means : (ℕ → Value → Value → Truth) → Block → List Relation → List Remote → Work → Type 0
+Means gives block tables remotes w =
+    (file : ℕ → ℤ → Result (List (List Value)) Cause) → AreStored file w.loaded
+    → IsTrueOf gives block tables remotes file w
+
+-- and at the end: the rounds come to the keys that are loaded
+abbrev pub HasCome : (ℕ → Value → Value → Truth) → Block → List Relation → List Remote → Work → Type 0
+HasCome gives block tables remotes w =
+    (file : ℕ → ℤ → Result (List (List Value)) Cause) → AreStored file w.loaded
+    → Comes gives block tables remotes file [] (Ok (known w.loaded))
+
+-- the file of a key may be this, by what is given of it
+abbrev pub MayBe : List Relation → List Remote → Option (List File) → RemoteKey → Result (List (List Value)) Cause
     → Type 0
-MeansIn gives block tables remotes held w = IfSome held
-    (λ files. IsTrueOf gives block tables remotes (key_file_of tables remotes files) w)
+MayBe tables remotes held at is =
+    (r : Remote) × (slice_get remotes at.remote ≡ Some r)
+    × OverFile (key_name r.prefix at.key) held
+    (λ found. rows_in (table_columns tables r.table) r.column at.key found ≡ is)
 
--- the first fault of keys that are loaded in order, if the folder tells its files
-abbrev pub FirstFaultIs : List Relation → List Remote → Option (List File) → List RemoteKey → List RemoteKey
-    → Option RemoteFault → Type 0
-FirstFaultIs tables remotes held loaded keys is = IfSome held
-    (λ files. first_fault (key_file_of tables remotes files) loaded keys ≡ is)
+-- what is loaded of a key are the rows that its file may have
+abbrev pub IsFound : List Relation → List Remote → Option (List File) → RemoteKey × Relation → Type 0
+IsFound tables remotes held e = MayBe tables remotes held e.0 (Ok e.1.rows)
 
--- keys were loaded, none of which has a fault
+abbrev pub AreFound : List Relation → List Remote → Option (List File) → List (RemoteKey × Relation) → Type 0
+AreFound tables remotes held entries = All (IsFound tables remotes held) entries
+
+-- this holds over what is given of keys' files
+abbrev pub OverKeys : List Remote → Option (List File) → (KeyBytes → Type 0) → Type 0
+OverKeys remotes held P = (found : KeyBytes) × AreKeysGiven remotes held found × P found
+
+-- this holds of the files of keys over what is given of them, where what is loaded are their rows
+abbrev pub OverLoaded : List Relation → List Remote → Option (List File) → List (RemoteKey × Relation)
+    → ((ℕ → ℤ → Result (List (List Value)) Cause) → Type 0) → Type 0
+OverLoaded tables remotes held entries P =
+    (found : KeyBytes) × AreKeysGiven remotes held found
+    × AreStored (key_file_of tables remotes found) entries × P (key_file_of tables remotes found)
+
+-- the first fault of keys that are loaded in order
+abbrev pub FirstFaultIs : List Relation → List Remote → Option (List File) → List (RemoteKey × Relation)
+    → List RemoteKey → Option RemoteFault → Type 0
+FirstFaultIs tables remotes held entries keys is =
+    OverLoaded tables remotes held entries (λ file. first_fault file (known entries) keys ≡ is)
+
+-- keys were loaded, none of which has a fault, and what was loaded before still is
 pub record HaveLoaded (gives : ℕ → Value → Value → Truth) (block : Block) (tables : List Relation)
     (remotes : List Remote)
     (held : Option (List File)) (keys : List RemoteKey) (before after : Work) : Type 0 where
@@ -100,10 +131,12 @@ pub record HaveLoaded (gives : ℕ → Value → Value → Truth) (block : Block
   pub fresh : (base : List RemoteKey) → AreFresh base before.asked.all before.asked.fresh
       → AreFresh base after.asked.all after.asked.fresh
   pub joined : AreJoined (known before.loaded) keys (known after.loaded)
-  pub means : MeansIn gives block tables remotes held before → MeansIn gives block tables remotes held after
-  pub stored : IsStoredIn tables remotes held before.loaded → IsStoredIn tables remotes held after.loaded
-  pub whole : IsStoredIn tables remotes held before.loaded
-      → FirstFaultIs tables remotes held (known before.loaded) keys None
+  pub means : Means gives block tables remotes before → Means gives block tables remotes after
+  pub found : AreFound tables remotes held before.loaded → AreFound tables remotes held after.loaded
+  pub still : (file : ℕ → ℤ → Result (List (List Value)) Cause) → AreStored file after.loaded
+      → AreStored file before.loaded
+  pub whole : (file : ℕ → ℤ → Result (List (List Value)) Cause) → AreStored file after.loaded
+      → first_fault file (known before.loaded) keys ≡ None
 
 -- how many keys of a remote tallies tell
 abbrev pub keys_at_remote : List Tally → ℕ → ℕ

@@ -1,12 +1,11 @@
 //! The file of a key.
-ghost use Rattle.std.specs.Prelude.{◌≡◌, ◌≢◌, ◌⊎◌, ◌<◌, [], Some, Ok, Err, length, option_map, string_bytes, IfOk, IfErr, IfSome, OnOk};
+ghost use Rattle.std.specs.Prelude.{◌≡◌, ◌≢◌, ◌⊎◌, ◌<◌, [], Some, Ok, Err, length, option_map, string_bytes, take, IfOk, IfErr, OnOk};
 ghost use Rattle.outside.specs.Faults.{NeverFalls, RoseOrFull};
-ghost use Rattle.outside.specs.Files.{Shows, lookup};
 ghost use Rattle.sq_value.specs.Relation.{IsHeading};
 ghost use Rattle.table_csv.specs.TableFile.{table_of_bytes};
 ghost use Rattle.remote_lookup.specs.KeyFiles as spec;
 ghost use Rattle.remote_lookup.specs.KeyFiles.{rows_for, rows_in};
-ghost use Rattle.remote_lookup.specs.Reading.{IsFault, IsRefusal};
+ghost use Rattle.remote_lookup.specs.Reading.{IsFault, IsRefusal, OverFile};
 ghost use Rattle.remote_lookup.specs.Rounds.{Bad};
 
 use crate::remote::{KeyFault, Remote, RemoteFault, RemoteKey};
@@ -123,8 +122,8 @@ fn bytes_of<F: Folder>(
     ensures keeps { F.holds folder.new ≡ F.holds folder.old }
     ensures counts { NeverFalls (F.faults folder.old) (F.faults folder.new) }
     ensures kept { OnOk result (F.faults folder.new ≡ F.faults folder.old) }
-    ensures shows { IfOk result (λ found. Shows (F.holds folder.old) (spec.key_name remote.now.prefix at.key) 67108865
-        (option_map (λ bytes. bytes.items) found)) }
+    ensures shows { IfOk result (λ shown. OverFile (spec.key_name remote.now.prefix at.key) (F.holds folder.old)
+        (λ found. option_map (take 67108865) found ≡ option_map (λ bytes. bytes.items) shown)) }
     ensures fault { IfErr result (λ fault. ((fault ≡ RemoteFault.Read at)
         × RoseOrFull (F.faults folder.old) (F.faults folder.new))
         ⊎ (fault ≡ RemoteFault.Memory)) }
@@ -154,12 +153,11 @@ pub(crate) fn load_file<F: Folder>(
     ensures counts { NeverFalls (F.faults folder.old) (F.faults folder.new) }
     ensures kept { OnOk result (F.faults folder.new ≡ F.faults folder.old) }
     ensures columns { IfOk result (λ table. table.columns ≡ columns.now) }
-    ensures rows { IfOk result (λ table. IfSome (F.holds folder.old)
-        (λ files. rows_in columns.now remote.now.column at.key
-        (lookup files (spec.key_name remote.now.prefix at.key)) ≡ Ok table.rows)) }
-    ensures refused { IfErr result (IsRefusal (F.holds folder.old) (F.faults folder.old) (F.faults folder.new)
-        (λ files cause. rows_in columns.now remote.now.column at.key
-        (lookup files (spec.key_name remote.now.prefix at.key)) ≡ Err cause) at) }
+    ensures rows { IfOk result (λ table. OverFile (spec.key_name remote.now.prefix at.key) (F.holds folder.old)
+        (λ found. rows_in columns.now remote.now.column at.key found ≡ Ok table.rows)) }
+    ensures refused { IfErr result (IsRefusal (F.faults folder.old) (F.faults folder.new)
+        (λ cause. OverFile (spec.key_name remote.now.prefix at.key) (F.holds folder.old)
+        (λ found. rows_in columns.now remote.now.column at.key found ≡ Err cause)) at) }
 {
     let Some(bytes) = bytes_of(alloc, remote, at, folder)? else {
         return Ok(empty_table(alloc, columns)?);

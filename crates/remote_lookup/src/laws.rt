@@ -10,8 +10,7 @@ ghost use Rattle.sq_expr.specs.Reach.{IsReachable};
 ghost use Rattle.remote_lookup.specs.Thinned.{thinned, are_left};
 ghost use Rattle.remote_lookup.specs.Filled.{exchanged, tables_for, keys_at, KeysRise, AreInOrder};
 ghost use Rattle.remote_lookup.specs.Needed.{AreNeeded, AreRemotes, IsAskedFor, IsAskedByFile};
-ghost use Rattle.outside.specs.Files.{File};
-ghost use Rattle.remote_lookup.specs.KeyFiles.{key_file_of};
+ghost use Rattle.remote_lookup.specs.KeyFiles.{KeyBytes, key_file_of};
 ghost use Rattle.remote_lookup.specs.Loaded.{remote_tables};
 ghost use Rattle.remote_lookup.specs.Rounds.{Cause, Comes, lists_key, rows_of_file};
 ghost use Rattle.remote_lookup.specs.declared.remote.RemoteFault.{RemoteFault as Refused};
@@ -46,7 +45,8 @@ pub fn needed_law()
 
 /// The laws of the rounds in which needed keys are found: what comes of them is one thing, `one`, and
 /// where it is a set of keys, these are the needed ones, `needed`; one key more adds what the rows of its
-/// file ask for, `grows`; and from no keys on they come to something, `some`. It does nothing.
+/// file ask for, `grows`; from no keys on they come to something, `some`; and it goes by what each key's
+/// file is, `alike`. It does nothing.
 pub fn rounds_law()
     ensures one { (gives : ℕ → Value → Value → Truth) (block : Block) (tables : List Relation) (remotes : List Remote)
         (file : ℕ → ℤ → Result (List (List Value)) Cause) (known : List RemoteKey)
@@ -65,6 +65,12 @@ pub fn rounds_law()
     ensures some { (gives : ℕ → Value → Value → Truth) (block : Block) (tables : List Relation) (remotes : List Remote)
         (file : ℕ → ℤ → Result (List (List Value)) Cause)
         → (due : Result (List RemoteKey) Refused) × Comes gives block tables remotes file [] due }
+    ensures alike { (gives : ℕ → Value → Value → Truth) (block : Block) (tables : List Relation)
+        (remotes : List Remote)
+        (file other : ℕ → ℤ → Result (List (List Value)) Cause) (known : List RemoteKey)
+        (due : Result (List RemoteKey) Refused)
+        → ((remote : ℕ) (key : ℤ) → file remote key ≡ other remote key)
+        → Comes gives block tables remotes file known due → Comes gives block tables remotes other known due }
 {}
 
 /// The law of filled tables: each remote's table for some keys, put in its place, gives the tables for these
@@ -75,9 +81,9 @@ pub fn filling_law()
         → exchanged tables remotes (remote_tables rows tables keys remotes) ≡ tables_for remotes rows tables keys }
 {}
 
-/// The law of key files: the rows of any keys' files have their file's key in the look-up column. It does
-/// nothing.
+/// The law of key files: whatever is given of keys' files, their rows have their file's key in the look-up
+/// column. It does nothing.
 pub fn file_law()
-    ensures { (tables : List Relation) (remotes : List Remote) (files : List File) (keys : List RemoteKey)
-        → AreInOrder remotes (λ r k. rows_of_file (key_file_of tables remotes files r k)) keys }
+    ensures { (tables : List Relation) (remotes : List Remote) (found : KeyBytes) (keys : List RemoteKey)
+        → AreInOrder remotes (λ r k. rows_of_file (key_file_of tables remotes found r k)) keys }
 {}

@@ -1,10 +1,10 @@
 //! Loads the needed keys of remotes, and their rows.
-ghost use Rattle.std.specs.Prelude.{◌≡◌, ◌≢◌, ◌≤◌, All, IfOk, IfErr, IfSome, OnOk, Err, length, map};
+ghost use Rattle.std.specs.Prelude.{◌≡◌, ◌≢◌, ◌≤◌, All, IfOk, IfErr, OnOk, Err, length, map};
 ghost use Rattle.outside.specs.Faults.{NeverFalls, RoseOrFull};
 ghost use Rattle.sq_expr.specs.Fits.{IsFit};
 ghost use Rattle.sq_expr.specs.Reach.{IsReachable};
 ghost use Rattle.remote_lookup.specs.KeyFiles.{table_columns};
-ghost use Rattle.remote_lookup.specs.Loaded.{FitRemotes, AreLoaded, MayRefuse, UnlessReadOrMemory, NamesOneOf};
+ghost use Rattle.remote_lookup.specs.Loaded.{FitRemotes, AnswersOver, UnlessReadOrMemory, NamesOneOf};
 ghost use Rattle.remote_lookup.specs.declared.remote.RemoteKey.{RemoteKey as Key};
 
 use crate::asking::ask_tables;
@@ -19,6 +19,9 @@ use std::alloc::Global;
 use table_csv::TableFault;
 
 /// Loads the needed keys of the remotes of a block, in rounds, and the rows of their files.
+///
+/// What is answered goes by what is given of each key's file, its bytes or that it is missing. That is what the folder
+/// holds, where it tells that. So the clause binds over a folder that tells nothing, too.
 ///
 /// The first round loads the keys that literals and rows of the other tables ask for, and each further round those that
 /// the rows of the last one newly ask for. A round first counts the keys, and then loads by remote and rising key.
@@ -49,13 +52,10 @@ pub fn load_needed<P: Predicates, F: Folder>(
     ensures keeps { F.holds folder.new ≡ F.holds folder.old }
     ensures counts { NeverFalls (F.faults folder.old) (F.faults folder.new) }
     ensures kept { OnOk result (F.faults folder.new ≡ F.faults folder.old) }
-    ensures loaded { IfOk result (λ loaded. IfSome (F.holds folder.old) (λ files.
-        AreLoaded P.gives block.now tables.now remotes.now files loaded.keys.items loaded.tables.items)) }
+    ensures answered { AnswersOver P.gives block.now tables.now remotes.now (F.holds folder.old) result }
     ensures columns { IfOk result (λ loaded. map (λ t. t.columns) loaded.tables.items
         ≡ map (λ r. table_columns tables.now r.table) remotes.now) }
     ensures few { IfOk result (λ loaded. All (λ t. length t.rows ≤ 4000000) loaded.tables.items) }
-    ensures refused { IfErr result (λ fault. IfSome (F.holds folder.old) (λ files.
-        MayRefuse P.gives block.now tables.now remotes.now files fault)) }
     ensures refused_kept { IfErr result (λ fault. UnlessReadOrMemory fault
         (F.faults folder.new ≡ F.faults folder.old)) }
     ensures read { IfErr result (λ fault. (at : Key) → fault ≡ RemoteFault.Read at

@@ -3,11 +3,11 @@ ghost use Rattle.std.specs.Prelude.{◌≡◌, ◌+◌, ◌<◌, ◌≤◌, ◌=
 ghost use Rattle.outside.specs.Faults.{NeverFalls};
 ghost use Rattle.remote_lookup.specs.Asked.{AreFresh, Grows};
 ghost use Rattle.remote_lookup.specs.Asking.{IsQuery, IsAskedBehind, AreSpare};
-ghost use Rattle.remote_lookup.specs.KeyFiles.{table_columns, key_file_of};
+ghost use Rattle.remote_lookup.specs.KeyFiles.{table_columns};
 ghost use Rattle.remote_lookup.specs.Loaded.{IsRemote, MayRefuse};
 ghost use Rattle.remote_lookup.specs.Reading.{IsRefused, MayStop, MayStopIn};
-ghost use Rattle.remote_lookup.specs.Rounds.{AreOrdered, Comes, first_fault, lists_key};
-ghost use Rattle.remote_lookup.specs.Working.{HaveLoaded, IsWork, MeansIn, empty_of, IsStored, IsStoredIn, crowded_with, known};
+ghost use Rattle.remote_lookup.specs.Rounds.{AreOrdered, lists_key};
+ghost use Rattle.remote_lookup.specs.Working.{AreFound, FirstFaultIs, HasCome, HaveLoaded, IsWork, Means, OverKeys, empty_of, crowded_with, known};
 
 use crate::asked::Asked;
 use crate::asking::ask_spare;
@@ -123,11 +123,10 @@ fn load_key<P: Predicates, F: Folder>(
     ensures kept { OnOk result (F.faults folder.new ≡ F.faults folder.old) }
     ensures loaded { OnOk result (HaveLoaded P.gives query.now.block.now query.now.tables.now query.now.remotes.now
         (F.holds folder.old) (at ∷ []) work.old work.new) }
-    ensures stopped { IfErr result (λ fault. IsStoredIn query.now.tables.now query.now.remotes.now
+    ensures stopped { IfErr result (λ fault. AreFound query.now.tables.now query.now.remotes.now
         (F.holds folder.old) work.old.loaded
-        → MayStop (F.holds folder.old) (F.faults folder.old) (F.faults folder.new)
-        (λ files. first_fault (key_file_of query.now.tables.now query.now.remotes.now files) (known work.old.loaded)
-        (at ∷ [])) at fault) }
+        → MayStop (F.faults folder.old) (F.faults folder.new)
+        (FirstFaultIs query.now.tables.now query.now.remotes.now (F.holds folder.old) work.old.loaded) at fault) }
     ensures refused { IfErr result (IsRefused (length query.now.remotes.now) (F.faults folder.old)
         (F.faults folder.new)) }
 {
@@ -163,11 +162,10 @@ fn load_round<P: Predicates, F: Folder>(
     ensures kept { OnOk result (F.faults folder.new ≡ F.faults folder.old) }
     ensures loaded { OnOk result (HaveLoaded P.gives query.now.block.now query.now.tables.now query.now.remotes.now
         (F.holds folder.old) fresh.now work.old work.new) }
-    ensures stopped { IfErr result (λ fault. IsStoredIn query.now.tables.now query.now.remotes.now
+    ensures stopped { IfErr result (λ fault. AreFound query.now.tables.now query.now.remotes.now
         (F.holds folder.old) work.old.loaded
-        → MayStopIn (F.holds folder.old) (F.faults folder.old) (F.faults folder.new)
-        (λ files keys. first_fault (key_file_of query.now.tables.now query.now.remotes.now files)
-        (known work.old.loaded) keys)
+        → MayStopIn (F.faults folder.old) (F.faults folder.new)
+        (FirstFaultIs query.now.tables.now query.now.remotes.now (F.holds folder.old) work.old.loaded)
         fresh.now fault) }
     ensures refused { IfErr result (IsRefused (length query.now.remotes.now) (F.faults folder.old)
         (F.faults folder.new)) }
@@ -198,17 +196,14 @@ pub(crate) fn load_rounds<P: Predicates, F: Folder>(
     ensures counts { NeverFalls (F.faults folder.old) (F.faults folder.new) }
     ensures kept { OnOk result (F.faults folder.new ≡ F.faults folder.old) }
     ensures work { OnOk result (IsWork query.now.tables.now query.now.remotes.now work.new) }
-    ensures comes { OnOk result (MeansIn P.gives query.now.block.now query.now.tables.now query.now.remotes.now
-        (F.holds folder.old) work.old
-        → IfSome (F.holds folder.old) (λ files. let file = key_file_of query.now.tables.now query.now.remotes.now
-        files in
-        Comes P.gives query.now.block.now query.now.tables.now query.now.remotes.now file []
-        (Ok (known work.new.loaded))
-        × All (IsStored file) work.new.loaded)) }
+    ensures comes { OnOk result (Means P.gives query.now.block.now query.now.tables.now query.now.remotes.now work.old
+        → HasCome P.gives query.now.block.now query.now.tables.now query.now.remotes.now work.new) }
+    ensures found { OnOk result (AreFound query.now.tables.now query.now.remotes.now (F.holds folder.old)
+        work.new.loaded) }
     ensures may { IfErr result (λ fault.
-        MeansIn P.gives query.now.block.now query.now.tables.now query.now.remotes.now (F.holds folder.old) work.old
-        → IfSome (F.holds folder.old) (λ files. MayRefuse P.gives query.now.block.now query.now.tables.now
-        query.now.remotes.now files fault)) }
+        Means P.gives query.now.block.now query.now.tables.now query.now.remotes.now work.old
+        → OverKeys query.now.remotes.now (F.holds folder.old) (λ found. MayRefuse P.gives query.now.block.now
+        query.now.tables.now query.now.remotes.now found fault)) }
     ensures refused { IfErr result (IsRefused (length query.now.remotes.now) (F.faults folder.old)
         (F.faults folder.new)) }
 {

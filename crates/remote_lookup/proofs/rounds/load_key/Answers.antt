@@ -20,8 +20,8 @@ returns-in_err-table-clause-stopped g c =
     let same : c.columns-columns.result.now ≡ table_columns q.tables.now r.table =
     c.columns-columns.ensures.columns ∙ sym (ap (λ (o : Option Relation). option_map_or (λ (t : Relation). t.columns) o []) c.get.ensures) in
     through c.from_residual.result c.in_err-table.field-0.0 _ c.from_residual.ensures.1
-    (λ stored. stops_file g.P.Predicates.gives q.block.now q.tables.now q.remotes.now q.asks.items c.requires.query.are (g.F.Folder.holds c.args.folder.now) c.args.work.now c.args.at r
-    c.columns-columns.result.now is same (g.F.Folder.faults c.args.folder.now) (g.F.Folder.faults c.load_file.new.folder) c.in_err-table.field-0.0 c.in_err-table.ensures.refused)
+    (λ found. stops_file g.P.Predicates.gives q.block.now q.tables.now q.remotes.now q.asks.items c.requires.query.are (g.F.Folder.holds c.args.folder.now) c.args.work.now c.args.at r
+    c.columns-columns.result.now is same c.requires.work c.requires.new found (g.F.Folder.faults c.args.folder.now) (g.F.Folder.faults c.load_file.new.folder) c.in_err-table.field-0.0 c.in_err-table.ensures.refused)
 
 pub count-requires-clause-few_keys : goal.count-requires-clause-few_keys
 count-requires-clause-few_keys g c =
@@ -53,9 +53,9 @@ returns-in_err-count-clause-stopped g c =
     let f = c.in_err-count.field-0.0 in
     let over : 4000000 < t.rows + length c.in_ok-table.table.rows = omega (arith, c.in_err-count.ensures.over.1, c.rows.ensures.count) in
     through c.from_residual-in_err-count.result f _ c.from_residual-in_err-count.ensures.1
-    (λ stored. stops_rows g.P.Predicates.gives q.block.now q.tables.now q.remotes.now q.asks.items c.requires.query.are (g.F.Folder.holds c.args.folder.now) c.args.work.now c.args.at r
-    c.columns-columns.result.now is same (g.F.Folder.faults c.args.folder.now) (g.F.Folder.faults c.load_file.new.folder) f c.in_ok-table.table.rows t c.requires.work was
-    c.in_ok-table.ensures.rows c.in_ok-table.ensures.kept c.in_err-count.ensures.over.0 over stored)
+    (λ found. stops_rows g.P.Predicates.gives q.block.now q.tables.now q.remotes.now q.asks.items c.requires.query.are (g.F.Folder.holds c.args.folder.now) c.args.work.now c.args.at r
+    c.columns-columns.result.now is same c.requires.work c.requires.new found (g.F.Folder.faults c.args.folder.now) (g.F.Folder.faults c.load_file.new.folder) f c.in_ok-table.table.rows t was
+    c.in_ok-table.ensures.rows c.in_ok-table.ensures.kept c.in_err-count.ensures.over.0 over)
 
 pub ask_file-requires-clause-columns : goal.ask_file-requires-clause-columns
 ask_file-requires-clause-columns g c =

@@ -3,10 +3,9 @@ use Rattle.std.specs.Prelude.{pos, slice_get}
 use Rattle.std.proofs.lemmas.Option.{slice_get-get_or}
 use Rattle.outside.specs.Files.{File}
 use Rattle.eddy_meaning.proofs.MatchLemmas.{All-at}
-use Rattle.remote_lookup.specs.KeyFiles.{key_file_of}
 use Rattle.remote_lookup.specs.Reading.{MayStop}
-use Rattle.remote_lookup.specs.Rounds.{first_fault, lists_key}
-use Rattle.remote_lookup.specs.Working.{HaveLoaded, IsStoredIn, known}
+use Rattle.remote_lookup.specs.Rounds.{lists_key}
+use Rattle.remote_lookup.specs.Working.{AreFound, FirstFaultIs, HaveLoaded, known}
 use Rattle.remote_lookup.specs.declared.remote.RemoteKey.{RemoteKey}
 use Rattle.remote_lookup.proofs.PlaceLemmas.{through}
 use Rattle.remote_lookup.proofs.RunLemmas.{front_more, front_split, next_few, next_new, none_loaded, stops_round}
@@ -61,15 +60,15 @@ returns-in_err-load_key-clause-stopped g c =
     let now = g.F.Folder.faults c.load_key.new.folder in
     let f = c.in_err-load_key.field-0.0 in
     let b = c.loop-at.work in
-    let moved = subst (λ (h : Option (List File)). IsStoredIn q.tables.now q.remotes.now h b.loaded
-    → MayStop h (g.F.Folder.faults c.loop-at.folder) now (λ files. first_fault (key_file_of q.tables.now q.remotes.now files) (known b.loaded) (k ∷ [])) k f)
+    let moved = subst (λ (h : Option (List File)). AreFound q.tables.now q.remotes.now h b.loaded
+    → MayStop (g.F.Folder.faults c.loop-at.folder) now (FirstFaultIs q.tables.now q.remotes.now h b.loaded) k f)
     c.loop-at.invariant.holds c.in_err-load_key.ensures.stopped in
     through c.from_residual.result f _ c.from_residual.ensures.1
-    (λ stored. stops_round g.P.Predicates.gives q.block.now q.tables.now q.remotes.now held (take i c.args.fresh.now) c.args.fresh.now (drop (i + 1) c.args.fresh.now) k c.args.work.now b
+    (λ found. stops_round g.P.Predicates.gives q.block.now q.tables.now q.remotes.now held (take i c.args.fresh.now) c.args.fresh.now (drop (i + 1) c.args.fresh.now) k c.args.work.now b
     (g.F.Folder.faults c.args.folder.now) now f c.loop-at.invariant.loaded
-    (front_split g.P.Predicates.gives q.block.now q.tables.now q.remotes.now held c.args.fresh.now i k is) stored
-    (subst (λ (n : ℕ). MayStop held n now (λ files. first_fault (key_file_of q.tables.now q.remotes.now files) (known b.loaded) (k ∷ [])) k f) c.loop-at.invariant.faults
-    (moved (c.loop-at.invariant.loaded.stored stored))))
+    (front_split g.P.Predicates.gives q.block.now q.tables.now q.remotes.now held c.args.fresh.now i k is)
+    (subst (λ (n : ℕ). MayStop n now (FirstFaultIs q.tables.now q.remotes.now held b.loaded) k f) c.loop-at.invariant.faults
+    (moved (c.loop-at.invariant.loaded.found found))))
 
 pub loop-at-preserved : goal.loop-at-preserved
 loop-at-preserved g c =

@@ -1,19 +1,46 @@
-use Rattle.std.proofs.Common.{◌≡◌, ◌<◌, ◌+◌, ◌-◌, ◌∙◌, ap, sym, subst, refl, List, length, Option, arith}
+use Rattle.std.proofs.Common.{◌≡◌, ◌<◌, ◌≤◌, ◌+◌, ◌-◌, ◌∙◌, ap, sym, subst, refl, List, length, Option, arith}
+use Rattle.std.specs.Prelude.{All}
 use Rattle.std.proofs.lemmas.Bool.{false≢true}
 use Rattle.outside.specs.Files.{File}
-use Rattle.remote_lookup.specs.KeyFiles.{key_file_of}
+use Rattle.remote_lookup.specs.Loaded.{MayRefuse}
 use Rattle.remote_lookup.specs.Reading.{MayStopIn}
-use Rattle.remote_lookup.specs.Rounds.{first_fault}
-use Rattle.remote_lookup.specs.Working.{HaveLoaded, IsStoredIn, crowded_with, known}
+use Rattle.remote_lookup.specs.Working.{AreFound, FirstFaultIs, HaveLoaded, crowded_with}
 use Rattle.remote_lookup.specs.declared.asked.Asked.{Asked}
+use Rattle.remote_lookup.specs.declared.remote.RemoteFault.TheVariants as fault
 use Rattle.remote_lookup.specs.declared.remote.RemoteKey.{RemoteKey}
 use Rattle.remote_lookup.specs.declared.rounds.Tally.{Tally}
 use Rattle.remote_lookup.specs.declared.rounds.Work.{Work}
 use Rattle.remote_lookup.proofs.FreshLemmas.{crowds, found_low}
+use Rattle.remote_lookup.proofs.GivenLemmas.{given_any}
 use Rattle.remote_lookup.proofs.PlaceLemmas.{through}
-use Rattle.remote_lookup.proofs.RoundsLemmas.{AreTaken, HaveTaken, comes_to, due_next, grown_by, may_be_crowded, may_stop, so_far_next, some_taken}
+use Rattle.remote_lookup.proofs.RoundsLemmas.{AreTaken, HaveTaken, comes_to, due_begun, due_next, few_keys, found_begun, found_next, grown_by, may_be_crowded, may_stop, so_far_begun, so_far_next, some_taken}
 use Rattle.remote_lookup.proofs.RunLemmas.{refused_keys}
 use Rattle.remote_lookup.proofs.rounds.load_rounds.Goals as goal
+
+pub loop-alloc-init : goal.loop-alloc-init
+loop-alloc-init g c =
+    let q = c.args.query.now in
+    let w : Work = c.args.work.now in
+    record {
+      holds = refl;
+      faults = refl;
+      due = due_begun g.P.Predicates.gives q.block.now q.tables.now q.remotes.now w c.requires.work c.requires.begun c.requires.fresh;
+      found = found_begun g.P.Predicates.gives q.block.now q.tables.now q.remotes.now (g.F.Folder.holds c.args.folder.now) w c.requires.begun;
+      so_far = λ means. so_far_begun g.P.Predicates.gives q.block.now q.tables.now q.remotes.now w c.requires.begun means;
+    }
+
+pub returns-in_err-fresh-clause-may : goal.returns-in_err-fresh-clause-may
+returns-in_err-fresh-clause-may g c =
+    let q = c.args.query.now in
+    through c.from_residual.result fault.Memory _ c.from_residual.ensures.1
+    (λ means. given_any q.tables.now q.remotes.now (g.F.Folder.holds c.args.folder.now)
+    (λ found. MayRefuse g.P.Predicates.gives q.block.now q.tables.now q.remotes.now found fault.Memory) (λ found. tt))
+
+pub crowded-requires-clause-few_keys : goal.crowded-requires-clause-few_keys
+crowded-requires-clause-few_keys g c =
+    let q = c.args.query.now in
+    subst (All (λ (t : Tally). t.keys ≤ 10000)) (sym c.as_slice.ensures.value)
+    (few_keys g.P.Predicates.gives q.block.now q.tables.now q.remotes.now c.loop-alloc.work c.loop-alloc.invariant.due.work)
 
 pub returns-in-Some-clause-may : goal.returns-in-Some-clause-may
 returns-in-Some-clause-may g c =
@@ -30,7 +57,7 @@ returns-in-Some-clause-may g c =
     ap (λ (l : List Tally). crowded_with l keys) (sym c.as_slice.ensures.value)
     ∙ ap (crowded_with c.as_slice.result.now) (sym c.as_slice-in-loop-alloc.ensures.value) ∙ sym c.crowded.ensures in
     λ means. may_be_crowded g.P.Predicates.gives q.block.now q.tables.now q.remotes.now held w keys c.in-Some.remote c.loop-alloc.invariant.due taken (crowd ∙ c.in-Some.is)
-    (c.loop-alloc.invariant.so_far means)
+    c.loop-alloc.invariant.found (c.loop-alloc.invariant.so_far means)
 
 pub returns-in-Some-clause-refused : goal.returns-in-Some-clause-refused
 returns-in-Some-clause-refused g c =
@@ -74,15 +101,15 @@ returns-in_err-load_round-clause-may g c =
     } in
     let f = c.in_err-load_round.field-0.0 in
     let now = g.F.Folder.faults c.load_round.new.folder in
-    let stops = subst (λ (l : List RemoteKey). IsStoredIn q.tables.now q.remotes.now (g.F.Folder.holds c.loop-alloc.folder) v.loaded
-    → MayStopIn (g.F.Folder.holds c.loop-alloc.folder) (g.F.Folder.faults c.loop-alloc.folder) now (λ files all. first_fault (key_file_of q.tables.now q.remotes.now files) (known v.loaded) all) l f)
+    let stops = subst (λ (l : List RemoteKey). AreFound q.tables.now q.remotes.now (g.F.Folder.holds c.loop-alloc.folder) v.loaded
+    → MayStopIn (g.F.Folder.faults c.loop-alloc.folder) now (FirstFaultIs q.tables.now q.remotes.now (g.F.Folder.holds c.loop-alloc.folder) v.loaded) l f)
     c.as_slice-in-loop-alloc-2.ensures.value c.in_err-load_round.ensures.stopped in
-    let moved = subst (λ (h : Option (List File)). IsStoredIn q.tables.now q.remotes.now h v.loaded
-    → MayStopIn h (g.F.Folder.faults c.loop-alloc.folder) now (λ files all. first_fault (key_file_of q.tables.now q.remotes.now files) (known v.loaded) all) keys f)
+    let moved = subst (λ (h : Option (List File)). AreFound q.tables.now q.remotes.now h v.loaded
+    → MayStopIn (g.F.Folder.faults c.loop-alloc.folder) now (FirstFaultIs q.tables.now q.remotes.now h v.loaded) keys f)
     c.loop-alloc.invariant.holds stops in
     through c.from_residual-in_err-load_round.result f _ c.from_residual-in_err-load_round.ensures.1
     (λ means. may_stop g.P.Predicates.gives q.block.now q.tables.now q.remotes.now held (g.F.Folder.faults c.loop-alloc.folder) now w v keys f c.loop-alloc.invariant.due taken have
-    (crowd ∙ c.in_default.is) moved (c.loop-alloc.invariant.so_far means))
+    (crowd ∙ c.in_default.is) moved c.loop-alloc.invariant.found (c.loop-alloc.invariant.so_far means))
 
 pub loop-alloc-smaller : goal.loop-alloc-smaller
 loop-alloc-smaller g c =
@@ -147,6 +174,7 @@ loop-alloc-preserved g c =
       holds = c.in_ok-load_round.ensures.keeps ∙ c.loop-alloc.invariant.holds;
       faults = c.in_ok-load_round.ensures.kept ∙ c.loop-alloc.invariant.faults;
       due = due_next g.P.Predicates.gives q.block.now q.tables.now q.remotes.now held w v x keys c.loop-alloc.invariant.due taken have one;
+      found = found_next g.P.Predicates.gives q.block.now q.tables.now q.remotes.now held w v x keys have one c.loop-alloc.invariant.found;
       so_far = λ means. so_far_next g.P.Predicates.gives q.block.now q.tables.now q.remotes.now held w v x keys c.loop-alloc.invariant.due taken have one (crowd ∙ c.in_default.is)
           (c.loop-alloc.invariant.so_far means);
     }
@@ -154,5 +182,5 @@ loop-alloc-preserved g c =
 pub returns-clause-comes : goal.returns-clause-comes
 returns-clause-comes g c =
     let q = c.args.query.now in
-    λ means. comes_to g.P.Predicates.gives q.block.now q.tables.now q.remotes.now (g.F.Folder.holds c.args.folder.now) c.loop-alloc.work c.loop-alloc.invariant.due
+    λ means. comes_to g.P.Predicates.gives q.block.now q.tables.now q.remotes.now c.loop-alloc.work c.loop-alloc.invariant.due
     (c.is_empty.ensures.0 c.loop-alloc-test.false) (c.loop-alloc.invariant.so_far means)
