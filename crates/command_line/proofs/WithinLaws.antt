@@ -1,10 +1,10 @@
 -- What holds of every command.
 use Rattle.std.proofs.Common.{◌≡◌, ◌∙◌, ℕ, ◌+◌, ◌≤◌, ◌<◌, ◌&&◌, Bool, cond, true, false, List, [], ◌∷◌, ◌++◌, length, Option, Some, None, refl, sym, ap, subst, arith, leb, ltb}
-use Rattle.std.specs.Prelude.{nat_lt, nat_le, map, is_none, All, position, option_map, codes, unwrap_or}
+use Rattle.std.specs.Prelude.{◌==◌, nat_lt, nat_le, map, is_none, All, position, option_map, codes, unwrap_or}
 use Rattle.std.specs.List.{list_all, slice_split}
 use Rattle.std.specs.Result.{is_ok}
 use Rattle.std.specs.Str.Parse.{digits_value}
-use Rattle.std.proofs.lemmas.Bool.{leb-true, ltb-true}
+use Rattle.std.proofs.lemmas.Bool.{leb-true, ltb-true, eqb-true, false≢true}
 use Rattle.std.proofs.lemmas.List.Quantifiers.{position-Some}
 use Rattle.std.proofs.lemmas.List.Elements.{All-append, All-cons, All-nil}
 use Rattle.clap.specs.Walk.{Row, Text, first_of, is_empty}
@@ -18,8 +18,8 @@ use Rattle.command_line.specs.Tables.{is_named_file, names_differ, table_of_word
 use Rattle.command_line.specs.Accesses.{access_of, access_with, accesses_of, accesses_of_items, items_in, is_comma, is_dot, if_differ, tables_differ}
 use Rattle.command_line.specs.Remotes.{is_remote, remotes_differ, remotes_of, remote_of_item, if_in_form}
 use Rattle.command_line.specs.Settings.{is_number, number_between, number_or, workers_of, seed_of, cache_of, policy_of, route_of, is_flag_given}
-use Rattle.command_line.specs.Form.{command, command_of, asked_by, task_in, task_of, query_of, demo_of, other_words_of}
-use Rattle.command_line.specs.Within.{IsAccess, IsQuery, IsDemo, IsTask, IsWithin}
+use Rattle.command_line.specs.Form.{command, command_of, asked_by, may_share, shared_of, shared_in, task_in, task_of, query_of, demo_of, other_words_of}
+use Rattle.command_line.specs.Within.{IsAccess, IsQuery, IsDemo, IsTask, HasScansAlone, IsWithin}
 use Rattle.command_line.specs.declared.command.TableWord.{TableWord}
 use Rattle.command_line.specs.declared.command.AccessWord.{AccessWord}
 use Rattle.command_line.specs.declared.command.RemoteWord.{RemoteWord}
@@ -233,6 +233,47 @@ task_within (Some rows) words index lookup remote t e =
     demo_in true n f = let range = in_range 1 100000 rows n f in record { some = range.0; few = range.1 }
     demo_in false n f = absurd cc
 
+-- a query without accesses and remotes reaches its tables by scans alone
+scanned_query : (words : List Text) (q : QueryWords) → query_of words None None None ≡ Some q → (q.accesses ≡ []) × (q.remotes ≡ [])
+unfolding accesses_of_items
+scanned_query [] q e = absurd cc
+scanned_query (script ∷ words) q e = by (tables_of words) e
+  where
+    of : List TableWord → QueryWords
+    of tables = record { script = script; tables = tables; accesses = []; remotes = [] }
+
+    given : (tables : List TableWord) → Some (of tables) ≡ Some q → of tables ≡ q
+    given tables f = cc
+
+    by : (o : Option (List TableWord)) → (o >>= (λ tables. accesses_of tables None None >>= (λ accesses. remotes_of tables None >>= (λ remotes. Some (record { script = script; tables = tables; accesses = accesses; remotes = remotes }))))) ≡ Some q
+        → (q.accesses ≡ []) × (q.remotes ≡ [])
+    by None f = absurd cc
+    by (Some tables) f = subst (λ (r : QueryWords). (r.accesses ≡ []) × (r.remotes ≡ [])) (given tables f) (refl, refl)
+
+scanned_task : (demo : Option Text) (words : List Text) (index lookup remote : Option Text) (t : Task) → task_of demo words index lookup remote ≡ Some t
+    → is_none index ≡ true → is_none lookup ≡ true → is_none remote ≡ true → HasScansAlone t
+scanned_task (Some rows) words index lookup remote t e i l r =
+    let got = mapped Demo (demo_of rows words index lookup remote) t e in subst HasScansAlone got.2 tt
+scanned_task None words None None None t e i l r =
+    let got = mapped Query (query_of words None None None) t e in subst HasScansAlone got.2 (scanned_query words got.0 got.1)
+scanned_task None words (Some x) lookup remote t e i l r = absurd (false≢true i)
+scanned_task None words None (Some x) remote t e i l r = absurd (false≢true l)
+scanned_task None words None None (Some x) t e i l r = absurd (false≢true r)
+
+-- what goes with the flag
+may_go : (b : Bool) (index lookup remote : Option Text) (cache : ℕ) (s : Bool) → shared_of b index lookup remote cache ≡ Some s → s ≡ true
+    → (is_none index ≡ true) × (is_none lookup ≡ true) × (is_none remote ≡ true) × (cache ≡ 0)
+may_go false index lookup remote cache s e is = absurd (false≢true (given e ∙ is))
+  where
+    given : Some false ≡ Some s → false ≡ s
+    given f = cc
+may_go true index lookup remote cache s e is =
+    let through = let_through (may_share index lookup remote cache) true s e in
+    let three = both (is_none index && is_none lookup && is_none remote) (cache == 0) through.0 in
+    let two = both (is_none index && is_none lookup) (is_none remote) three.0 in
+    let one = both (is_none index) (is_none lookup) two.0 in
+    (one.0, one.1, two.1, eqb-true cache 0 three.1)
+
 asked_within : (rows : List Row) (c : Command) → asked_by rows ≡ Some c → IsWithin c
 asked_within rows c e =
     let workers = step_given (workers_of (first_of (codes "workers") rows)) _ c e in
@@ -240,14 +281,18 @@ asked_within rows c e =
     let seed = step_given (seed_of (first_of (codes "seed") rows)) _ c policy.2 in
     let route = step_given (route_of (first_of (codes "route") rows)) _ c seed.2 in
     let cache = step_given (cache_of (first_of (codes "cache") rows)) _ c route.2 in
-    let task = step_given (task_in rows) _ c cache.2 in
+    let shared = step_given (shared_in rows cache.0) _ c cache.2 in
+    let task = step_given (task_in rows) _ c shared.2 in
     let range = workers_in (first_of (codes "workers") rows) workers.0 workers.1 in
-    subst IsWithin (given (command_of workers.0 policy.0 seed.0 route.0 cache.0 (is_flag_given (first_of (codes "tally") rows)) task.0) task.2) (record {
+    subst IsWithin (given (command_of workers.0 policy.0 seed.0 route.0 cache.0 (is_flag_given (first_of (codes "tally") rows)) shared.0 task.0) task.2) (record {
       some = range.0;
       few = range.1;
       route = route_in (first_of (codes "route") rows) route.0 route.1;
       cache = cache_in (first_of (codes "cache") rows) cache.0 cache.1;
       task = task_within (first_of (codes "demo") rows) (other_words_of rows) (first_of (codes "index") rows) (first_of (codes "lookup") rows) (first_of (codes "remote") rows) task.0 task.1;
+      shared = λ is.
+          let go = may_go (is_flag_given (first_of (codes "shared") rows)) (first_of (codes "index") rows) (first_of (codes "lookup") rows) (first_of (codes "remote") rows) cache.0 shared.0 shared.1 is in
+          (go.3, scanned_task (first_of (codes "demo") rows) (other_words_of rows) (first_of (codes "index") rows) (first_of (codes "lookup") rows) (first_of (codes "remote") rows) task.0 task.1 go.0 go.1 go.2);
     })
   where
     given : (x : Command) → Some x ≡ Some c → x ≡ c

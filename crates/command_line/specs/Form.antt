@@ -1,5 +1,5 @@
 -- The form of the command line, and what words in form ask for.
-use Rattle.std.specs.Prelude.{ℕ, Bool, ◌&&◌, List, [], ◌∷◌, Option, Some, None, is_none, unwrap_or, option_map, codes, if◌then◌else◌}
+use Rattle.std.specs.Prelude.{ℕ, Bool, true, false, ◌&&◌, ◌==◌, List, [], ◌∷◌, Option, Some, None, is_none, unwrap_or, option_map, codes, if◌then◌else◌}
 use Rattle.clap.specs.Walk.{Row, Text, first_of, all_of, is_empty}
 use Rattle.clap.specs.Simple.{matches_of}
 use Rattle.clap.specs.Takes.{takes}
@@ -29,10 +29,28 @@ abbrev pub demo_of : Text → List Text → Option Text → Option Text → Opti
 demo_of rows words index lookup remote =
     if is_empty words && is_none index && is_none lookup && is_none remote then number_between 1 100000 rows else None
 
+-- whether the queries may run together: no access is asked for, no remote and no cache
+abbrev pub may_share : Option Text → Option Text → Option Text → ℕ → Bool
+may_share index lookup remote cache = is_none index && is_none lookup && is_none remote && cache == 0
+
+-- whether they do, by the flag
+abbrev pub shared_of : Bool → Option Text → Option Text → Option Text → ℕ → Option Bool
+shared_of false index lookup remote cache = Some false
+shared_of true index lookup remote cache = if may_share index lookup remote cache then Some true else None
+
 -- a command of these parts
-abbrev pub command_of : ℕ → PolicyName → ℕ → Text → ℕ → Bool → Task → Command
-command_of workers policy seed route cache tally task =
-    record { workers = workers; policy = policy; seed = seed; route = route; cache = cache; tally = tally; task = task }
+abbrev pub command_of : ℕ → PolicyName → ℕ → Text → ℕ → Bool → Bool → Task → Command
+command_of workers policy seed route cache tally shared task =
+    record {
+      workers = workers;
+      policy = policy;
+      seed = seed;
+      route = route;
+      cache = cache;
+      tally = tally;
+      shared = shared;
+      task = task;
+    }
 
 -- what is to be run, by the text of `--demo`, the words that are no option's, and the texts of the three options
 abbrev pub task_of : Option Text → List Text → Option Text → Option Text → Option Text → Option Task
@@ -49,6 +67,12 @@ task_in rows =
     task_of (first_of (codes "demo") rows) (other_words_of rows) (first_of (codes "index") rows)
     (first_of (codes "lookup") rows) (first_of (codes "remote") rows)
 
+-- whether the queries run together, by what clap finds
+abbrev pub shared_in : List Row → ℕ → Option Bool
+shared_in rows cache =
+    shared_of (is_flag_given (first_of (codes "shared") rows)) (first_of (codes "index") rows)
+    (first_of (codes "lookup") rows) (first_of (codes "remote") rows) cache
+
 -- what the texts ask for that clap finds in some words
 abbrev pub asked_by : List Row → Option Command
 asked_by rows = do
@@ -57,8 +81,9 @@ asked_by rows = do
   seed ← seed_of (first_of (codes "seed") rows)
   route ← route_of (first_of (codes "route") rows)
   cache ← cache_of (first_of (codes "cache") rows)
+  shared ← shared_in rows cache
   task ← task_in rows
-  Some (command_of workers policy seed route cache (is_flag_given (first_of (codes "tally") rows)) task)
+  Some (command_of workers policy seed route cache (is_flag_given (first_of (codes "tally") rows)) shared task)
 
 -- the command of some words, where clap takes them and what it finds in them is in form
 unfoldable pub command : List Text → Option Command

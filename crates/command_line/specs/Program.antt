@@ -44,7 +44,7 @@ with_reach =
     with_rule (with_rule (with_rule with_settings (option_named (codes "index"))) (option_named (codes "lookup")))
     (option_named (codes "remote"))
 
--- the command line: its options, its flag, and any number of other words
+-- the command line: its options, its flags, and any number of other words
 unfoldable pub program : App
 program =
     record {
@@ -53,7 +53,7 @@ program =
             rules = option_named (codes "workers") ∷ option_named (codes "policy") ∷ option_named (codes "seed")
                 ∷ option_named (codes "route") ∷ option_named (codes "cache") ∷ option_named (codes "index")
                 ∷ option_named (codes "lookup") ∷ option_named (codes "remote") ∷ option_named (codes "demo")
-                ∷ flag_named (codes "tally") ∷ other_words ∷ [];
+                ∷ flag_named (codes "tally") ∷ flag_named (codes "shared") ∷ other_words ∷ [];
           };
       subs = [];
     }

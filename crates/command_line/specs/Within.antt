@@ -1,5 +1,5 @@
 -- What holds of every command, whatever its words: what a run may rely on.
-use Rattle.std.specs.Prelude.{◌≡◌, ◌+◌, ◌≤◌, ◌<◌, ℕ, true, List, length, All}
+use Rattle.std.specs.Prelude.{◌≡◌, ◌+◌, ◌≤◌, ◌<◌, ⊤, ℕ, true, List, [], length, All}
 use Rattle.std.specs.Result.{is_ok}
 use Rattle.route_policy.specs.ScriptReading.{script_of}
 use Rattle.command_line.specs.Tables.{is_named_file, names_differ}
@@ -39,6 +39,11 @@ abbrev pub IsTask : Task → Type 0
 IsTask (Query q) = IsQuery q
 IsTask (Demo rows) = IsDemo rows
 
+-- no table is reached but by a scan: there is no access and no remote
+abbrev pub HasScansAlone : Task → Type 0
+HasScansAlone (Query q) = (q.accesses ≡ []) × (q.remotes ≡ [])
+HasScansAlone (Demo rows) = ⊤
+
 -- there are 1 to 16 workers, the route text is a route script, and a cache has room for 4,096 answers at most
 pub record IsWithin (c : Command) : Type 0 where
   pub some : 1 ≤ c.workers
@@ -46,3 +51,4 @@ pub record IsWithin (c : Command) : Type 0 where
   pub route : is_ok (script_of c.route) ≡ true
   pub cache : c.cache ≤ 4096
   pub task : IsTask c.task
+  pub shared : c.shared ≡ true → (c.cache ≡ 0) × HasScansAlone c.task

@@ -61,7 +61,8 @@ pub enum Task {
 
 /// What the words ask for: the number of workers, the policy, the seed of the lottery, the text of
 /// the route script, the room of each cache of predicates' answers, 0 to 4,096, where 0 is none,
-/// whether a line of counts is wanted for each query, and what is to be run.
+/// whether a line of counts is wanted for each query, or one for all where all run together, whether
+/// they do, and what is to be run.
 #[derive(Debug, Drop)]
 pub struct Command {
     pub workers: u32,
@@ -70,5 +71,6 @@ pub struct Command {
     pub route: SqText,
     pub cache: u32,
     pub tally: bool,
+    pub shared: bool,
     pub task: Task,
 }

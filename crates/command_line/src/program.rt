@@ -75,7 +75,7 @@ fn with_reach<'a>(alloc: Global) -> Result<Command<'a>, AllocError>
 }
 
 #[tactic(auto, unfolding(crate::specs::Program::program))]
-/// The command line: its options, its flag, and any number of other words.
+/// The command line: its options, its flags, and any number of other words.
 ///
 /// # Errors
 /// There is no memory for the list of options.
@@ -85,5 +85,6 @@ pub fn program<'a>(alloc: Global) -> Result<Command<'a>, AllocError>
     let command = with_reach(alloc)?;
     let command = with_option(alloc, command, "demo")?;
     let command = command.arg(flag_named(alloc, "tally"))?;
+    let command = command.arg(flag_named(alloc, "shared"))?;
     command.arg(other_words(alloc))
 }

@@ -110,6 +110,38 @@ fn task_in(alloc: Global, matches: &ArgMatches<'_>) -> Result<Task, WordsFault>
     }
 }
 
+/// Whether the queries run together: only where no access is asked for, no remote and no cache.
+fn shared_of(
+    shared: bool,
+    index: Option<&str>,
+    lookup: Option<&str>,
+    remote: Option<&str>,
+    cache: u32,
+) -> Result<bool, WordsFault>
+    ensures { Reads (spec.shared_of shared (option_map (λ t. t.now) index.entry)
+        (option_map (λ t. t.now) lookup.entry) (option_map (λ t. t.now) remote.entry) cache) result }
+{
+    if !shared {
+        return Ok(false);
+    }
+    if index.is_some() || lookup.is_some() || remote.is_some() || cache != 0 {
+        return Err(WordsFault::OutOfForm);
+    }
+    Ok(true)
+}
+
+/// The same by what `clap` finds.
+fn shared_in(matches: &ArgMatches<'_>, cache: u32) -> Result<bool, WordsFault>
+    ensures { Reads (spec.shared_in (rows_of (found_of matches.now)) cache) result }
+{
+    let flag = text_of(matches, "shared");
+    let index = text_of(matches, "index");
+    let lookup = text_of(matches, "lookup");
+    let remote = text_of(matches, "remote");
+    let shared = is_flag_given(flag);
+    shared_of(shared, index, lookup, remote, cache)
+}
+
 /// What the texts ask for that `clap` finds.
 fn asked_by(alloc: Global, matches: &ArgMatches<'_>) -> Result<Command, WordsFault>
     ensures { Reads (spec.asked_by (rows_of (found_of matches.now))) result }
@@ -120,6 +152,7 @@ fn asked_by(alloc: Global, matches: &ArgMatches<'_>) -> Result<Command, WordsFau
     let route = route_of(alloc, text_of(matches, "route"))?;
     let cache = cache_of(text_of(matches, "cache"))?;
     let tally = is_flag_given(text_of(matches, "tally"));
+    let shared = shared_in(matches, cache)?;
     let task = task_in(alloc, matches)?;
     Ok(Command {
         workers,
@@ -128,6 +161,7 @@ fn asked_by(alloc: Global, matches: &ArgMatches<'_>) -> Result<Command, WordsFau
         route,
         cache,
         tally,
+        shared,
         task,
     })
 }

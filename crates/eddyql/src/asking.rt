@@ -41,6 +41,7 @@ fn request_of(command: Command) -> Request
         route,
         cache,
         tally,
+        shared,
         task,
     } = command;
     let settings = Settings {
@@ -50,6 +51,7 @@ fn request_of(command: Command) -> Request
         route,
         cache,
         tally,
+        shared,
     };
     Request { task, settings }
 }

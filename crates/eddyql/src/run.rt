@@ -16,6 +16,8 @@ ghost use Rattle.run_notes.specs.Note.{NotesOf, line_of, names_of};
 ghost use Rattle.run_answers.specs.Answering.{Answers, Tallied};
 ghost use Rattle.run_answers.specs.Settings.{AreSettings};
 ghost use Rattle.run_answers.specs.Tally.{IsTally};
+ghost use Rattle.run_answers.specs.Together.{IsPieceTally, IsSharedTally, in_pieces, pieces_of};
+ghost use Rattle.shared_eddy.specs.Sharing.{CanShare};
 ghost use Rattle.eddyql.specs.Asked.{names_asked, tables_asked, accesses_asked, is_tallied, loads_none, are_fileless};
 ghost use Rattle.eddyql.specs.Asked as asking;
 ghost use Rattle.eddyql.specs.Ending.{AnsweredBy, Ran, Finished, stop_of};
@@ -29,7 +31,9 @@ use crate::planning::plan_for;
 use command_line::{TableWord, Task};
 use eddy_worker::Gate;
 use outside::{Folder, Sink};
-use run_answers::{Engine, Stop, put_answers, put_summary};
+use run_answers::{
+    Engine, Stop, apart, put_answers, put_answers_together, put_summary, put_summary_together,
+};
 use run_base::Outputs;
 use run_notes::put_note;
 use run_plan::{Plan, Status};
@@ -46,8 +50,9 @@ pub enum End {
     ByNotes,
 }
 
-// Runs a plan, and puts its answers, or the demo's summary, and its lines of counts.
-fn put_task<O: Sink, N: Sink, P: Predicates + Sync, G: Gate, R: Threads + Wait + Sync>(
+// Runs the statements of a plan one after another, and puts their answers, or the demo's summary, and their lines of
+// counts.
+fn put_each<O: Sink, N: Sink, P: Predicates + Sync, G: Gate, R: Threads + Wait + Sync>(
     engine: &Engine<'_, P, G, R>,
     task: &Task,
     plan: &Plan,
@@ -68,21 +73,72 @@ fn put_task<O: Sink, N: Sink, P: Predicates + Sync, G: Gate, R: Threads + Wait +
     }
 }
 
+// Runs the statements of a plan together, and puts their answers, or the demo's summary, and their one line of counts.
+fn put_together<O: Sink, N: Sink, P: Predicates + Sync, G: Gate, R: Threads + Wait + Sync>(
+    engine: &Engine<'_, P, G, R>,
+    task: &Task,
+    plan: Plan,
+    outputs: &mut Outputs<O, N>,
+) -> Result<(), Stop>
+    requires run { All (IsRunnable (P.kinds_of engine.now.functions.now) plan.catalogue.tables) plan.statements }
+    requires shared { CanShare (map (λ b. b.block) plan.statements) plan.catalogue.tables }
+    requires settings { AreSettings engine.now.settings.now }
+    ensures { Answers engine.now.settings.now.tally (IsSharedTally P.gives) 1 (items_of plan.entry ∷ [])
+        (λ pieces. task_text task.now P.gives (in_pieces pieces)) outputs.old outputs.new result }
+{
+    let Plan {
+        statements,
+        catalogue,
+    } = plan;
+    let tables = catalogue.tables();
+    let Ok(statements) = apart(engine.alloc, statements) else {
+        return Err(Stop::Memory);
+    };
+    match task {
+        Task::Query(_) => put_answers_together(engine, &statements, tables, outputs),
+        Task::Demo { rows: _ } => put_summary_together(engine, &statements, tables, outputs),
+    }
+}
+
+// Runs a plan, and puts its answers, or the demo's summary, and its lines of counts.
+fn put_task<O: Sink, N: Sink, P: Predicates + Sync, G: Gate, R: Threads + Wait + Sync>(
+    engine: &Engine<'_, P, G, R>,
+    task: &Task,
+    plan: Plan,
+    outputs: &mut Outputs<O, N>,
+) -> Result<(), Stop>
+    requires run { All (IsRunnable (P.kinds_of engine.now.functions.now) plan.catalogue.tables) plan.statements }
+    requires shared { engine.now.settings.now.shared ≡ true
+        → CanShare (map (λ b. b.block) plan.statements) plan.catalogue.tables }
+    requires settings { AreSettings engine.now.settings.now }
+    ensures { let shared = engine.now.settings.now.shared in
+        Answers engine.now.settings.now.tally (IsPieceTally shared engine.now.settings.now.cache P.gives) 1
+        (pieces_of shared (items_of plan.entry)) (λ pieces. task_text task.now P.gives (in_pieces pieces))
+        outputs.old outputs.new result }
+{
+    if engine.settings.shared {
+        return put_together(engine, task, plan, outputs);
+    }
+    put_each(engine, task, &plan, outputs)
+}
+
 // Runs a plan, and says how that ended.
 fn run_plan<O: Sink, N: Sink, P: Predicates + Sync, G: Gate, R: Threads + Wait + Sync>(
     engine: &Engine<'_, P, G, R>,
     task: &Task,
-    plan: &Plan,
+    plan: Plan,
     outputs: &mut Outputs<O, N>,
 ) -> End
-    requires run { All (IsRunnable (P.kinds_of engine.now.functions.now) plan.now.catalogue.tables)
-        plan.now.statements }
+    requires run { All (IsRunnable (P.kinds_of engine.now.functions.now) plan.catalogue.tables) plan.statements }
+    requires shared { engine.now.settings.now.shared ≡ true
+        → CanShare (map (λ b. b.block) plan.statements) plan.catalogue.tables }
     requires settings { AreSettings engine.now.settings.now }
     ensures out { AnsweredBy engine.now.settings.now.tally outputs.old outputs.new
-        (task_text task.now P.gives (items_of plan.now)) result }
-    ensures notes { Tallied engine.now.settings.now.tally
-        (IsTally engine.now.settings.now.cache P.gives) 1 (items_of plan.now)
-        (task_text task.now P.gives) outputs.old outputs.new (stop_of result) }
+        (task_text task.now P.gives (items_of plan.entry)) result }
+    ensures notes { let shared = engine.now.settings.now.shared in
+        Tallied engine.now.settings.now.tally (IsPieceTally shared engine.now.settings.now.cache P.gives) 1
+        (pieces_of shared (items_of plan.entry)) (λ pieces. task_text task.now P.gives (in_pieces pieces))
+        outputs.old outputs.new (stop_of result) }
 {
     match put_task(engine, task, plan, outputs) {
         Ok(()) => End::By(Status::Done),
@@ -117,7 +173,7 @@ fn run_query<F: Folder, O: Sink, N: Sink, P: Predicates + Sync, G: Gate, R: Thre
                 functions,
                 gate: host.gate,
             };
-            run_plan(&engine, &request.task, &plan, outputs)
+            run_plan(&engine, &request.task, plan, outputs)
         }
         Err(refusal) => End::By(refusal),
     }
@@ -190,7 +246,8 @@ fn run_words<F: Folder, O: Sink, N: Sink, P: Predicates + Sync, G: Gate, R: Thre
 /// the folder or the output, or want of memory, is that outcome's, and has written exactly the text
 /// before it. Want of memory may come at any point, and leaves a front of the text.
 ///
-/// With `--tally` a line of counts is put to the notes behind each answer. A fault there ends the run as `Write`,
+/// With `--shared` all statements run together, in one eddy over one module for each table, before the first answer is
+/// written. With `--tally` a line of counts is put to the notes behind each answer, or one behind all of these. A fault there ends the run as `Write`,
 /// and nothing is put behind it.
 ///
 /// Where the words ask for several workers, each runs in a thread of its own, waits for turns, and calls the gate

@@ -6,3 +6,4 @@ pub mod Lines
 pub mod SoFar
 pub mod Wrote
 pub mod Answering
+pub mod Together

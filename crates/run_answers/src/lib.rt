@@ -3,6 +3,7 @@
 #![tactic(auto)]
 
 mod answering;
+mod apart;
 mod counting;
 mod engine;
 mod finding;
@@ -10,9 +11,12 @@ mod settings;
 mod shaping;
 mod stopping;
 mod tallying;
+mod together;
 
 pub use answering::put_answers;
+pub use apart::{Statements, apart};
 pub use counting::put_summary;
 pub use engine::Engine;
 pub use settings::Settings;
 pub use stopping::Stop;
+pub use together::{put_answers_together, put_summary_together};

@@ -11,7 +11,8 @@ use std::alloc::Global;
 
 /// The number of workers, 1 to 16, the policy's name, the seed of the lottery, the text of the route
 /// script, the room of each worker's cache of predicates' answers, 0 to 4,096, where 0 is none, and
-/// whether a line of counts is wanted for each statement.
+/// whether a line of counts is wanted for each statement, and whether all statements run together, which
+/// then have one line.
 #[derive(Debug, Drop)]
 pub struct Settings {
     pub workers: u32,
@@ -20,6 +21,7 @@ pub struct Settings {
     pub route: SqText,
     pub cache: u32,
     pub tally: bool,
+    pub shared: bool,
 }
 
 impl Settings {

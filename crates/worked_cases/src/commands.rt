@@ -66,7 +66,12 @@ q -- n=f
 --demo 1
 --demo 100000
 --demo=00000000000000000001
---demo 5 --workers 3 --policy pressure --seed 2 --route b --cache 9 --tally";
+--demo 5 --workers 3 --policy pressure --seed 2 --route b --cache 9 --tally
+--shared q n=f
+q n=f --shared --tally --workers 2 --policy greedy
+--shared --cache 0 q n=f m=g
+--demo 7 --shared --tally
+--demo 7 --cache 0 --shared";
 
 const OUT_OF_FORM: &str = "\
 _
@@ -142,6 +147,14 @@ q n=f --cache
 --demo 5 --remote v.c=p
 q n=f --remote
 --tally --tally q n=f
+--shared --shared q n=f
+--shared=true q n=f
+--shared --index n.c q n=f
+--shared --lookup n.c q n=f
+q n=f --remote v.c=p --shared
+--shared --cache 1 q n=f
+--demo 7 --shared --cache 4096
+-- --shared q n=f
 --tally=true q n=f
 --other q n=f
 -t q n=f
@@ -207,9 +220,24 @@ fn leaves_what_is_not_given(rt: HostRuntime) -> Result<(), Fail> {
     let Ok(command) = command_of(rt.alloc(), "--demo 1000")? else {
         return Err(Fail::new("not as given"));
     };
-    assert!(rt; command.workers == 1 && command.seed == 1 && !command.tally);
+    assert!(rt; command.workers == 1 && command.seed == 1 && !command.tally && !command.shared);
     assert_eq!(rt; command.cache, 0);
     assert!(rt; command.policy == PolicyName::Lottery && command.route.as_str() == "");
     assert!(rt; matches!(&command.task, Task::Demo { rows: 1000 }));
+    Ok(())
+}
+
+#[test]
+fn reads_the_flag_of_queries_that_run_together(rt: HostRuntime) -> Result<(), Fail> {
+    for (line, shared) in [
+        ("q n=f --shared --cache 0", true),
+        ("q n=f --cache 0", false),
+        ("--demo 7 --shared", true),
+    ] {
+        let Ok(command) = command_of(rt.alloc(), line)? else {
+            return Err(Fail::new("not as given"));
+        };
+        assert!(rt; command.shared == shared, "{line}");
+    }
     Ok(())
 }
