@@ -8,7 +8,7 @@ _eddyql() {
         *)
             if [[ $word == -* ]]; then
                 mapfile -t COMPREPLY < <(compgen -W '-c -h -v --cache --demo --explain-faults --help --index --json --lookup --policy --route
-                    --seed --separator --svg --tally --tsv --type --version --workers' -- "$word")
+                    --seed --separator --shared --svg --tally --tsv --type --version --workers' -- "$word")
             else
                 # Behind a table's name and `=`, which bash takes for a word of its own, comes a file.
                 [[ $word != = ]] || word=''
