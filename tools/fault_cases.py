@@ -155,4 +155,8 @@ usage: eddyql [OPTIONS] SCRIPT NAME=FILE.. or eddyql [OPTIONS] --demo ROWS
 usage: eddyql [OPTIONS] SCRIPT NAME=FILE.. or eddyql [OPTIONS] --demo ROWS
   a script and at least one table are wanted; eddyql --help has the words
 """),
+    ("queries together with a look-up", ["--shared", "--lookup", "people.id", "two.sql", "people.csv"], 2, """\
+usage: eddyql [OPTIONS] SCRIPT NAME=FILE.. or eddyql [OPTIONS] --demo ROWS
+  --shared goes without --index, --lookup and --cache; eddyql --help has the words
+"""),
 ]
