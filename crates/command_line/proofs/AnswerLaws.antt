@@ -1,10 +1,10 @@
 -- What a step answers that hands on the answer of an earlier one.
 use Rattle.std.proofs.Common.{◌≡◌, ◌∙◌, refl, sym, ap, Option, Some, None, Ok, Err}
-use Rattle.std.specs.Prelude.{Result, MatchResult, IfErr, IsErrAnd, option_map}
+use Rattle.std.specs.Prelude.{Result, IfErr, IsErrAnd}
 use Rattle.command_line.specs.Answers.{Reads}
 use Rattle.command_line.specs.Steps.{◌>>=◌}
 use Rattle.command_line.specs.declared.fault.WordsFault.{WordsFault}
-use Rattle.command_line.specs.declared.fault.WordsFault.TheVariants.{OutOfForm, Memory}
+use Rattle.command_line.specs.declared.fault.WordsFault.TheVariants.{OutOfForm}
 
 -- a fault is handed on
 pub handed_on : {A : Type 0} (r : Result A WordsFault) (e : WordsFault) (P : Type 0) → IsErrAnd r (λ y. y ≡ e) → (e ≡ OutOfForm → P)

@@ -1,5 +1,5 @@
 -- Remotes whose names differ, and items that are gathered one behind another.
-use Rattle.std.proofs.Common.{◌≡◌, ◌∙◌, ℕ, ◌≤◌, ◌<◌, ◌-◌, ◌&&◌, Bool, true, List, [], ◌∷◌, ◌++◌, length, take, drop, get_or, refl, sym, ap, append_assoc, arith}
+use Rattle.std.proofs.Common.{◌≡◌, ◌∙◌, ℕ, ◌≤◌, ◌<◌, ◌-◌, ◌&&◌, Bool, true, List, [], ◌∷◌, ◌++◌, length, take, drop, get_or, refl, ap, append_assoc, arith}
 use Rattle.std.specs.Prelude.{map}
 use Rattle.command_line.specs.Remotes.{is_new, remotes_differ}
 use Rattle.command_line.specs.declared.command.RemoteWord.{RemoteWord}

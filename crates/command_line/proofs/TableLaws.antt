@@ -1,5 +1,5 @@
 -- Names that differ, and texts at their commas.
-use Rattle.std.proofs.Common.{◌≡◌, ◌∙◌, ℕ, suc, ◌≤◌, ◌<◌, ◌-◌, ◌+◌, ◌==◌, ◌&&◌, Bool, cond, true, false, List, [], ◌∷◌, length, take, drop, get_or, length-drop, Option, Some, None, refl, sym, ap, ap₂, arith}
+use Rattle.std.proofs.Common.{◌≡◌, ◌∙◌, ℕ, suc, ◌≤◌, ◌<◌, ◌-◌, ◌+◌, ◌&&◌, Bool, cond, true, false, List, [], ◌∷◌, length, take, drop, get_or, length-drop, refl, sym, ap, ap₂, arith}
 use Rattle.std.specs.Prelude.{not}
 use Rattle.std.specs.List.{list_any, slice_split, onto_first, position_or_len, before_first, after_first}
 use Rattle.std.proofs.lemmas.List.Splits.{slice_split_first}

@@ -1,6 +1,6 @@
 -- What holds of every command.
-use Rattle.std.proofs.Common.{◌≡◌, ◌∙◌, ℕ, ◌+◌, ◌≤◌, ◌<◌, ◌&&◌, Bool, cond, true, false, List, [], ◌∷◌, ◌++◌, length, Option, Some, None, refl, sym, ap, subst, arith, leb, ltb}
-use Rattle.std.specs.Prelude.{◌==◌, nat_lt, nat_le, map, is_none, All, position, option_map, codes, unwrap_or}
+use Rattle.std.proofs.Common.{◌≡◌, ◌∙◌, ℕ, ◌+◌, ◌≤◌, ◌<◌, ◌&&◌, Bool, cond, true, false, List, [], ◌∷◌, ◌++◌, length, Option, Some, None, refl, sym, ap, subst, arith}
+use Rattle.std.specs.Prelude.{◌==◌, nat_lt, nat_le, map, is_none, All, position, option_map, codes}
 use Rattle.std.specs.List.{list_all, slice_split}
 use Rattle.std.specs.Result.{is_ok}
 use Rattle.std.specs.Str.Parse.{digits_value}
@@ -17,14 +17,13 @@ use Rattle.command_line.specs.Program.{program}
 use Rattle.command_line.specs.Tables.{is_named_file, names_differ, table_of_word, tables_of, has_name}
 use Rattle.command_line.specs.Accesses.{access_of, access_with, accesses_of, accesses_of_items, items_in, is_comma, is_dot, if_differ, tables_differ}
 use Rattle.command_line.specs.Remotes.{is_remote, remotes_differ, remotes_of, remote_of_item, if_in_form}
-use Rattle.command_line.specs.Settings.{is_number, number_between, number_or, workers_of, seed_of, cache_of, policy_of, route_of, is_flag_given}
+use Rattle.command_line.specs.Settings.{is_number, number_between, workers_of, seed_of, cache_of, policy_of, route_of, is_flag_given}
 use Rattle.command_line.specs.Form.{command, command_of, asked_by, may_share, shared_of, shared_in, task_in, task_of, query_of, demo_of, other_words_of}
 use Rattle.command_line.specs.Within.{IsAccess, IsQuery, IsDemo, IsTask, HasScansAlone, IsWithin}
 use Rattle.command_line.specs.declared.command.TableWord.{TableWord}
 use Rattle.command_line.specs.declared.command.AccessWord.{AccessWord}
 use Rattle.command_line.specs.declared.command.RemoteWord.{RemoteWord}
 use Rattle.command_line.specs.declared.command.Command.{Command}
-use Rattle.command_line.specs.declared.command.PolicyName.{PolicyName}
 use Rattle.command_line.specs.declared.command.Query.{Query as QueryWords}
 use Rattle.command_line.specs.declared.command.Task.{Task}
 use Rattle.command_line.specs.declared.command.Task.TheVariants.{Query, Demo}
@@ -235,7 +234,7 @@ task_within (Some rows) words index lookup remote t e =
 
 -- a query without accesses and remotes reaches its tables by scans alone
 scanned_query : (words : List Text) (q : QueryWords) → query_of words None None None ≡ Some q → (q.accesses ≡ []) × (q.remotes ≡ [])
-unfolding accesses_of_items
+unfolding accesses_of_items tables_differ
 scanned_query [] q e = absurd cc
 scanned_query (script ∷ words) q e = by (tables_of words) e
   where

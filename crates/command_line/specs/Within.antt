@@ -1,5 +1,5 @@
 -- What holds of every command, whatever its words: what a run may rely on.
-use Rattle.std.specs.Prelude.{◌≡◌, ◌+◌, ◌≤◌, ◌<◌, ⊤, ℕ, true, List, [], length, All}
+use Rattle.std.specs.Prelude.{◌≡◌, ◌+◌, ◌≤◌, ◌<◌, ⊤, ℕ, true, [], length, All}
 use Rattle.std.specs.Result.{is_ok}
 use Rattle.route_policy.specs.ScriptReading.{script_of}
 use Rattle.command_line.specs.Tables.{is_named_file, names_differ}

@@ -1,6 +1,5 @@
-use Rattle.std.proofs.Common.{◌≡◌, ◌∙◌, ℕ, List, [], Option, Some, None, Bor, ap, sym, true, false}
+use Rattle.std.proofs.Common.{◌≡◌, ◌∙◌, ℕ, List, [], Option, Some, Bor, ap, sym, true, false}
 use Rattle.std.specs.Prelude.{option_map}
-use Rattle.command_line.specs.Steps.{◌>>=◌}
 use Rattle.command_line.specs.Accesses.{accesses_of, items_in, tables_differ}
 use Rattle.command_line.specs.Answers.{with_items}
 use Rattle.command_line.specs.declared.command.AccessWord.{AccessWord}

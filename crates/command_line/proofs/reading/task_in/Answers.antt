@@ -1,10 +1,10 @@
-use Rattle.std.proofs.Common.{◌≡◌, ◌∙◌, ℕ, List, [], Option, Some, None, Bor, ap, sym, subst, refl, codes}
-use Rattle.std.specs.Prelude.{map, option_map, unwrap_or}
+use Rattle.std.proofs.Common.{◌≡◌, ◌∙◌, List, [], Option, ap, subst, codes}
+use Rattle.std.specs.Prelude.{unwrap_or}
 use Rattle.clap.specs.Matches.{found_of}
-use Rattle.clap.specs.Walk.{rows_of, first_of, Text}
+use Rattle.clap.specs.Walk.{Text}
 use Rattle.clap.proofs.WalkLemmas.{raw_values-rows}
 use Rattle.command_line.specs.Answers.{Reads}
-use Rattle.command_line.specs.Form.{task_of, task_in}
+use Rattle.command_line.specs.Form.{task_of}
 use Rattle.command_line.specs.declared.command.Task.{Task}
 use Rattle.command_line.proofs.reading.task_in.Goals as goal
 

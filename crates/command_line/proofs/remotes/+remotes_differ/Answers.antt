@@ -1,5 +1,4 @@
-use Rattle.std.proofs.Common.{sym, ◌∙◌, ap, ◌&&◌}
-use Rattle.command_line.specs.Remotes.{remotes_differ}
+use Rattle.std.proofs.Common.{sym, ◌∙◌}
 use Rattle.command_line.proofs.RemoteLaws.{remotes_differ-none, remotes_differ-more}
 use Rattle.command_line.proofs.remotes.+remotes_differ.Goals as goal
 

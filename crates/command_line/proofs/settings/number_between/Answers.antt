@@ -1,4 +1,4 @@
-use Rattle.std.proofs.Common.{◌∙◌, sym, refl, arith}
+use Rattle.std.proofs.Common.{◌∙◌, sym}
 use Rattle.command_line.proofs.NumberLaws.{number_unread}
 use Rattle.command_line.proofs.settings.number_between.Goals as goal
 
