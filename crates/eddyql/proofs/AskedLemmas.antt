@@ -3,7 +3,7 @@ use Rattle.std.proofs.Common.{◌≡◌, ◌∙◌, ℕ, Bool, cond, true, false
 use Rattle.std.specs.Prelude.{option_map, option_and_then}
 use Rattle.command_line.specs.Form.{command}
 use Rattle.command_line.specs.declared.command.Command.{Command}
-use Rattle.command_line.specs.Within.{IsTask, IsWithin}
+use Rattle.command_line.specs.Within.{HasScansAlone, IsTask, IsWithin}
 use Rattle.run_answers.specs.Settings.{AreSettings}
 use Rattle.std.specs.Option.{option_map_or}
 use Rattle.eddyql.specs.Asked.{request_of, is_run, if_run, asked, loads_none, are_fileless}
@@ -30,6 +30,10 @@ asked_none words e = ap (λ (o : Option Command). option_and_then if_run (option
 -- what is asked for is within what the words may ask for
 pub request_within : (c : Command) → IsWithin c → IsTask (request_of c).task × AreSettings (request_of c).settings
 request_within c w = (w.task, record { some = w.some; few = w.few; script = w.route; room = w.cache })
+
+-- nor do statements run together that are reached by more than scans
+pub shared_within : (c : Command) → IsWithin c → (request_of c).settings.shared ≡ true → HasScansAlone (request_of c).task
+shared_within c w e = (w.shared e).1
 
 -- the demo loads no file
 pub fileless_by : (words : List (List ℕ)) (a : Request) → asked words ≡ Some a → are_fileless words ≡ true → loads_none a.task ≡ true

@@ -3,6 +3,7 @@ pub mod StageLemmas
 pub mod TaskLemmas
 pub mod OneOutcome
 pub mod PlanLemmas
+pub mod ShareLemmas
 pub mod EndedLemmas
 pub mod RunLemmas
 pub mod ShippingLemmas

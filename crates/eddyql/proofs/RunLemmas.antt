@@ -4,6 +4,7 @@ use Rattle.outside.specs.Faults.{NeverFalls, RoseOrFull}
 use Rattle.outside.specs.Told.{Adds}
 use Rattle.outside.proofs.Laws.{Adds-nothing, Adds-twice, RoseOrFull-earlier}
 use Rattle.command_line.specs.declared.command.TableWord.{TableWord}
+use Rattle.command_line.specs.declared.command.Task.{Task}
 use Rattle.sq_value.specs.declared.value.Value.{Value}
 use Rattle.sq_value.specs.declared.value.Truth.{Truth}
 use Rattle.run_base.specs.Items.{Item}
@@ -21,10 +22,11 @@ use Rattle.run_plan.specs.Stage.{stage_of}
 use Rattle.run_plan.proofs.StageLemmas.{early_not_done}
 use Rattle.run_notes.specs.Note.{IsNoted, NotesOf, line_of, names_of}
 use Rattle.run_answers.specs.Answering.{Answers, Tallied, LinesPut, EndsSo}
-use Rattle.run_answers.specs.Tally.{IsTally}
+use Rattle.run_answers.specs.Together.{IsBundleTally, in_bundles, bundles_of}
 use Rattle.run_answers.specs.declared.stopping.Stop.{Stop}
 use Rattle.run_answers.specs.declared.stopping.Stop.TheVariants as stop
 use Rattle.run_answers.proofs.AnswerLemmas.{same_written, same_faults}
+use Rattle.run_answers.proofs.BundleLemmas.{bundles_whole}
 use Rattle.run_answers.proofs.ProgressLemmas.{tallied_output}
 use Rattle.eddyql.specs.Asked.{asked, names_asked, tables_in, is_tallied}
 use Rattle.eddyql.specs.Ending.{AnsweredBy, Ended, EndedBy, LinedBy, NotedLines, Ran, Finished, stop_at, stop_of}
@@ -40,36 +42,43 @@ use Rattle.eddyql.proofs.StageLemmas.{Done-only}
 -- ---- the lines of counts
 
 -- how the answers of a plan ended
-pub plan_done : {room : ℕ} {O N : Type 0} (tally : Bool) (gives : ℕ → Value → Value → Truth) (items : List Item) (text : List Item → List ℕ)
-    (old new : Outputs O N) (r : Result (Unit {0}) Stop) (x : Unit {0}) → r ≡ Ok x → Answers tally (IsTally room gives) 1 items text old new r
-    → AnsweredBy tally old new (text items) (end.By status.Done)
-    × Tallied tally (IsTally room gives) 1 items text old new (stop_of (end.By status.Done))
-plan_done {room} tally gives items text old new r x e a =
-    let b : Answers tally (IsTally room gives) 1 items text old new (Ok tt) =
-    subst (λ (q : Result (Unit {0}) Stop). Answers tally (IsTally room gives) 1 items text old new q) e a in
-    (answered_done tally old new (text items) b.out, b.notes)
+pub plan_done : {A O N : Type 0} (tally : Bool) (IsRight : ℕ → A → List ℕ → Type 0) (all : List A) (text : List A → List ℕ)
+    (old new : Outputs O N) (r : Result (Unit {0}) Stop) (x : Unit {0}) → r ≡ Ok x → Answers tally IsRight 1 all text old new r
+    → AnsweredBy tally old new (text all) (end.By status.Done)
+    × Tallied tally IsRight 1 all text old new (stop_of (end.By status.Done))
+plan_done tally IsRight all text old new r x e a =
+    let b : Answers tally IsRight 1 all text old new (Ok tt) =
+    subst (λ (q : Result (Unit {0}) Stop). Answers tally IsRight 1 all text old new q) e a in
+    (answered_done tally old new (text all) b.out, b.notes)
 
-pub plan_stopped : {room : ℕ} {O N : Type 0} (tally : Bool) (gives : ℕ → Value → Value → Truth) (items : List Item) (text : List Item → List ℕ)
-    (old new : Outputs O N) (r : Result (Unit {0}) Stop) (y : Stop) → r ≡ Err y → Answers tally (IsTally room gives) 1 items text old new r
-    → AnsweredBy tally old new (text items) (end_at y)
-    × Tallied tally (IsTally room gives) 1 items text old new (stop_of (end_at y))
-plan_stopped {room} tally gives items text old new r y e a =
-    by y (subst (λ (q : Result (Unit {0}) Stop). Answers tally (IsTally room gives) 1 items text old new q) e a)
+pub plan_stopped : {A O N : Type 0} (tally : Bool) (IsRight : ℕ → A → List ℕ → Type 0) (all : List A) (text : List A → List ℕ)
+    (old new : Outputs O N) (r : Result (Unit {0}) Stop) (y : Stop) → r ≡ Err y → Answers tally IsRight 1 all text old new r
+    → AnsweredBy tally old new (text all) (end_at y)
+    × Tallied tally IsRight 1 all text old new (stop_of (end_at y))
+plan_stopped tally IsRight all text old new r y e a =
+    by y (subst (λ (q : Result (Unit {0}) Stop). Answers tally IsRight 1 all text old new q) e a)
   where
-    by : (y : Stop) → Answers tally (IsTally room gives) 1 items text old new (Err y)
-        → AnsweredBy tally old new (text items) (end_at y)
-        × Tallied tally (IsTally room gives) 1 items text old new (stop_of (end_at y))
+    by : (y : Stop) → Answers tally IsRight 1 all text old new (Err y)
+        → AnsweredBy tally old new (text all) (end_at y)
+        × Tallied tally IsRight 1 all text old new (stop_of (end_at y))
     by stop.Output b = (
-      answered_write tally old new (text items) b.out,
-      tallied_output tally (IsTally room gives) 1 items text old new b.notes,
+      answered_write tally old new (text all) b.out,
+      tallied_output tally IsRight 1 all text old new b.notes,
     )
-    by stop.Notes b = (answered_notes tally old new (text items) b.out b.notes.end'.1 b.notes.end'.0.rose, b.notes)
-    by stop.Memory b = (answered_memory tally old new (text items) b.out, b.notes)
+    by stop.Notes b = (answered_notes tally old new (text all) b.out b.notes.end'.1 b.notes.end'.0.rose, b.notes)
+    by stop.Memory b = (answered_memory tally old new (text all) b.out, b.notes)
+
+-- the text of all bundles is that of all statements
+pub answered_whole : {O N : Type 0} (tally shared : Bool) (t : Task) (gives : ℕ → Value → Value → Truth) (items : List Item) (old new : Outputs O N) (e : End)
+    → AnsweredBy tally old new (task_text t gives (in_bundles (bundles_of shared items))) e → AnsweredBy tally old new (task_text t gives items) e
+answered_whole tally shared t gives items old new e h =
+    subst (λ (z : List ℕ). AnsweredBy tally old new z e) (ap (task_text t gives) (bundles_whole shared items)) h
 
 -- the lines of a plan that was run
 pub lines_answered : {O N : Type 0} (p : Predicates) (words : List (List ℕ)) (a : Request) (plan : Plan) (old new : Folder) (before now : Outputs O N) (e : End)
     → asked words ≡ Some a → (w : Went old new (IsGivenFor a.task) (λ given. IsRequested p a given (Ok plan)))
-    → Tallied a.settings.tally (IsTally a.settings.cache p.gives) 1 (items_of plan) (task_text a.task p.gives) before now (stop_of e)
+    → Tallied a.settings.tally (IsBundleTally a.settings.shared a.settings.cache p.gives) 1 (bundles_of a.settings.shared (items_of plan))
+    (λ bundles. task_text a.task p.gives (in_bundles bundles)) before now (stop_of e)
     → NotedLines p words w.given before now e
 lines_answered p words a plan old new before now e is w h =
     record { end' = by (stop_of e) h.end'; quiet = λ q. h.quiet (sym tally ∙ q) }
@@ -85,14 +94,14 @@ lines_answered p words a plan old new before now e is w h =
       due = (due_by (Ok plan), outcome_planned p words w.given a plan is w.tells, inr refl, refl);
     }
 
-    text : List Item → List ℕ
-    text = task_text a.task p.gives
+    text : List (List Item) → List ℕ
+    text = λ bundles. task_text a.task p.gives (in_bundles bundles)
 
     progress : LinesPut text h.finished h.left h.lines before now → Progress p words w.given before.out now.out h.lines
     progress k = record { of = of; finished = h.finished; left = h.left; split = h.split; are = h.are; took = k.took }
 
     by : (r : Result (Unit {0}) Stop)
-        → EndsSo a.settings.tally (IsTally a.settings.cache p.gives) 1 text h.finished h.left h.lines before now r
+        → EndsSo a.settings.tally (IsBundleTally a.settings.shared a.settings.cache p.gives) 1 text h.finished h.left h.lines before now r
         → LinedBy p words w.given before now r
     by (Ok x) k = (h.lines, (progress k.0, k.1), k.0.put, k.2)
     by (Err stop.Notes) k = record {
@@ -100,7 +109,7 @@ lines_answered p words a plan old new before now e is w h =
       finished = h.finished;
       next = k.0.next;
       left = k.0.rest;
-      split = h.split ∙ ap (λ (l : List Item). h.finished ++ l) k.0.is;
+      split = h.split ∙ ap (λ (l : List (List Item)). h.finished ++ l) k.0.is;
       text = k.0.whole;
       kept = k.0.kept;
       lines = h.lines;

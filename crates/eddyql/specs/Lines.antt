@@ -1,5 +1,5 @@
 -- The lines of counts of a run, and how far it came: which statements are finished, by what was written of their text.
--- Statements that run together are one piece, with one line.
+-- Statements that run together are one bundle, with one line.
 use Rattle.std.specs.Prelude.{◌≡◌, ◌⊎◌, ℕ, ◌+◌, true, List, [], ◌∷◌, ◌++◌, length, Option, Some}
 use Rattle.outside.specs.Faults.{RoseOrFull}
 use Rattle.outside.specs.Told.{Adds}
@@ -8,7 +8,7 @@ use Rattle.run_base.specs.Seen.{Sink, Outputs}
 use Rattle.run_plan.specs.Given.{Given}
 use Rattle.run_plan.specs.Prepared.{Predicates}
 use Rattle.run_answers.specs.Lines.{AreLines}
-use Rattle.run_answers.specs.Together.{IsPieceTally, in_pieces, pieces_of}
+use Rattle.run_answers.specs.Together.{IsBundleTally, in_bundles, bundles_of}
 use Rattle.run_answers.specs.SoFar.{TookSoFar, AddsFrontBehind}
 use Rattle.eddyql.specs.Asked.{asked, is_tallied}
 use Rattle.eddyql.specs.Outcome.{Due, IsOutcome, IsTextDue, task_text}
@@ -25,32 +25,33 @@ pub record RunOf (p : Predicates) (words : List (List ℕ)) (given : Given) : Ty
   pub items : List Item
   pub due : AreDue p words given items
 
--- its statements in pieces, each with one line of counts: each by itself, or all, where they run together
-abbrev pub pieces_in : {p : Predicates} {words : List (List ℕ)} {given : Given} → RunOf p words given → List (List Item)
-pieces_in r = pieces_of r.request.settings.shared r.items
+-- its statements in bundles, each with one line of counts: each by itself, or all, where they run together
+abbrev pub bundles_in : {p : Predicates} {words : List (List ℕ)} {given : Given} → RunOf p words given
+    → List (List Item)
+bundles_in r = bundles_of r.request.settings.shared r.items
 
--- the text of its first pieces
+-- the text of its first bundles
 abbrev pub text_in : {p : Predicates} {words : List (List ℕ)} {given : Given} → RunOf p words given
     → List (List Item) → List ℕ
-text_in {p = p} r pieces = task_text r.request.task p.gives (in_pieces pieces)
+text_in {p = p} r bundles = task_text r.request.task p.gives (in_bundles bundles)
 
--- a line is right for the piece with this number
+-- a line is right for the bundle with this number
 abbrev pub IsLineIn : {p : Predicates} {words : List (List ℕ)} {given : Given} → RunOf p words given
     → ℕ → List Item → List ℕ → Type 0
-IsLineIn {p = p} r = IsPieceTally r.request.settings.shared r.request.settings.cache p.gives
+IsLineIn {p = p} r = IsBundleTally r.request.settings.shared r.request.settings.cache p.gives
 
--- the lines of its first pieces, which are none where none are asked for
+-- the lines of its first bundles, which are none where none are asked for
 abbrev pub AreLinesIn : {p : Predicates} {words : List (List ℕ)} {given : Given} → RunOf p words given
     → List (List Item) → List ℕ → Type 0
-AreLinesIn r pieces lines = AreLines r.request.settings.tally (IsLineIn r) 1 pieces lines
+AreLinesIn r bundles lines = AreLines r.request.settings.tally (IsLineIn r) 1 bundles lines
 
--- a run came so far: the first of its pieces are finished, by what the output took, and these are their lines
+-- a run came so far: the first of its bundles are finished, by what the output took, and these are their lines
 pub record Progress {S : Type 0} (p : Predicates) (words : List (List ℕ)) (given : Given) (before now : Sink S)
     (lines : List ℕ) : Type 0 where
   pub of : RunOf p words given
   pub finished : List (List Item)
   pub left : List (List Item)
-  pub split : pieces_in of ≡ finished ++ left
+  pub split : bundles_in of ≡ finished ++ left
   pub are : AreLinesIn of finished lines
   pub took : TookSoFar (text_in of) finished left before now
 
@@ -71,7 +72,7 @@ pub record IsCutOff {O N : Type 0} (p : Predicates) (words : List (List ℕ)) (g
   pub finished : List (List Item)
   pub next : List Item
   pub left : List (List Item)
-  pub split : pieces_in of ≡ finished ++ next ∷ left
+  pub split : bundles_in of ≡ finished ++ next ∷ left
   pub text : Adds old.out.written new.out.written (text_in of (finished ++ next ∷ []))
   pub kept : new.out.faults ≡ old.out.faults
   pub lines : List ℕ

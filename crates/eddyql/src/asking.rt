@@ -1,8 +1,8 @@
 //! What the words of the command line ask for.
 
-ghost use Rattle.std.specs.Prelude.{◌≡◌, ◌⊎◌, Some, None, map, IfOk, IfErr};
+ghost use Rattle.std.specs.Prelude.{◌≡◌, ◌⊎◌, Some, None, true, map, IfOk, IfErr};
 ghost use Rattle.std.specs.String.{string_bytes};
-ghost use Rattle.command_line.specs.Within.{IsTask};
+ghost use Rattle.command_line.specs.Within.{IsTask, HasScansAlone};
 ghost use Rattle.run_answers.specs.Settings.{AreSettings};
 ghost use Rattle.eddyql.specs.Asked as spec;
 
@@ -74,6 +74,7 @@ pub fn asked(alloc: Global, words: &[String]) -> Result<Request, Status>
     ensures ok { IfOk result (λ a. spec.asked (map string_bytes words.now) ≡ Some a) }
     ensures task { IfOk result (λ a. IsTask a.task) }
     ensures settings { IfOk result (λ a. AreSettings a.settings) }
+    ensures shared { IfOk result (λ a. a.settings.shared ≡ true → HasScansAlone a.task) }
     ensures refused { IfErr result (λ s. (s ≡ Status.Memory)
         ⊎ ((s ≡ Status.Usage) × (spec.asked (map string_bytes words.now) ≡ None))) }
 {

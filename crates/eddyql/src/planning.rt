@@ -1,12 +1,13 @@
 //! From what the words ask for to the plan of a run: that of a script over tables, or of the demo.
 
-ghost use Rattle.std.specs.Prelude.{◌≡◌, true, Ok, Err, IfOk, IfErr, All, length, map};
+ghost use Rattle.std.specs.Prelude.{◌≡◌, true, Ok, Err, IfOk, IfErr, All, length};
 ghost use Rattle.command_line.specs.Within.{IsTask, HasScansAlone};
 ghost use Rattle.run_base.specs.Runnable.{IsRunnable};
 ghost use Rattle.run_base.specs.Seen.{folder_seen};
 ghost use Rattle.shared_eddy.specs.Sharing.{CanShare};
 ghost use Rattle.run_plan.specs.Doing.{Went, Stopped};
 ghost use Rattle.run_plan.specs.Prepared.{predicates};
+ghost use Rattle.run_answers.specs.Together.{blocks_in};
 ghost use Rattle.eddyql.specs.Asked.{loads_none, tables_in, accesses_in};
 ghost use Rattle.eddyql.specs.Outcome as spec;
 
@@ -36,7 +37,7 @@ pub fn plan_for<F: Folder, P: Predicates>(
     ensures run { IfOk result (λ plan.
         All (IsRunnable (P.kinds_of functions.now) plan.catalogue.tables) plan.statements) }
     ensures scanned { HasScansAlone request.now.task → IfOk result (λ plan.
-        CanShare (map (λ b. b.block) plan.statements) plan.catalogue.tables) }
+        CanShare (blocks_in plan.statements) plan.catalogue.tables) }
     ensures stopped { let p = predicates (P.number_of functions.now) (P.kinds_of functions.now) P.gives in
         IfErr result (λ s.
         Stopped (length (tables_in request.now.task)) (length (accesses_in request.now.task))

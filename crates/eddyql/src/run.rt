@@ -4,7 +4,7 @@ ghost use Rattle.std.specs.Prelude.{◌≡◌, ◌≢◌, ◌⊎◌, ℕ, true, 
 ghost use Rattle.std.specs.String.{string_bytes};
 ghost use Rattle.outside.specs.Faults.{NeverFalls, RoseOrFull};
 ghost use Rattle.outside.specs.Told.{Adds, AddsFront};
-ghost use Rattle.command_line.specs.Within.{IsTask};
+ghost use Rattle.command_line.specs.Within.{IsTask, HasScansAlone};
 ghost use Rattle.run_base.specs.Runnable.{IsRunnable};
 ghost use Rattle.run_base.specs.Seen.{world_seen};
 ghost use Rattle.run_plan.specs.Faults.{IsPlaced};
@@ -16,7 +16,7 @@ ghost use Rattle.run_notes.specs.Note.{NotesOf, line_of, names_of};
 ghost use Rattle.run_answers.specs.Answering.{Answers, Tallied};
 ghost use Rattle.run_answers.specs.Settings.{AreSettings};
 ghost use Rattle.run_answers.specs.Tally.{IsTally};
-ghost use Rattle.run_answers.specs.Together.{IsPieceTally, IsSharedTally, in_pieces, pieces_of};
+ghost use Rattle.run_answers.specs.Together.{IsBundleTally, IsSharedTally, blocks_in, in_bundles, bundles_of};
 ghost use Rattle.shared_eddy.specs.Sharing.{CanShare};
 ghost use Rattle.eddyql.specs.Asked.{names_asked, tables_asked, accesses_asked, is_tallied, loads_none, are_fileless};
 ghost use Rattle.eddyql.specs.Asked as asking;
@@ -32,7 +32,7 @@ use command_line::{TableWord, Task};
 use eddy_worker::Gate;
 use outside::{Folder, Sink};
 use run_answers::{
-    Engine, Stop, apart, put_answers, put_answers_together, put_summary, put_summary_together,
+    Engine, Stop, put_answers, put_answers_together, put_summary, put_summary_together,
 };
 use run_base::Outputs;
 use run_notes::put_note;
@@ -81,22 +81,19 @@ fn put_together<O: Sink, N: Sink, P: Predicates + Sync, G: Gate, R: Threads + Wa
     outputs: &mut Outputs<O, N>,
 ) -> Result<(), Stop>
     requires run { All (IsRunnable (P.kinds_of engine.now.functions.now) plan.catalogue.tables) plan.statements }
-    requires shared { CanShare (map (λ b. b.block) plan.statements) plan.catalogue.tables }
+    requires shared { CanShare (blocks_in plan.statements) plan.catalogue.tables }
     requires settings { AreSettings engine.now.settings.now }
-    ensures { Answers engine.now.settings.now.tally (IsSharedTally P.gives) 1 (items_of plan.entry ∷ [])
-        (λ pieces. task_text task.now P.gives (in_pieces pieces)) outputs.old outputs.new result }
+    ensures { Answers engine.now.settings.now.tally (IsSharedTally P.gives) 1 (items_of plan ∷ [])
+        (λ bundles. task_text task.now P.gives (in_bundles bundles)) outputs.old outputs.new result }
 {
     let Plan {
         statements,
         catalogue,
     } = plan;
     let tables = catalogue.tables();
-    let Ok(statements) = apart(engine.alloc, statements) else {
-        return Err(Stop::Memory);
-    };
     match task {
-        Task::Query(_) => put_answers_together(engine, &statements, tables, outputs),
-        Task::Demo { rows: _ } => put_summary_together(engine, &statements, tables, outputs),
+        Task::Query(_) => put_answers_together(engine, statements, tables, outputs),
+        Task::Demo { rows: _ } => put_summary_together(engine, statements, tables, outputs),
     }
 }
 
@@ -109,11 +106,11 @@ fn put_task<O: Sink, N: Sink, P: Predicates + Sync, G: Gate, R: Threads + Wait +
 ) -> Result<(), Stop>
     requires run { All (IsRunnable (P.kinds_of engine.now.functions.now) plan.catalogue.tables) plan.statements }
     requires shared { engine.now.settings.now.shared ≡ true
-        → CanShare (map (λ b. b.block) plan.statements) plan.catalogue.tables }
+        → CanShare (blocks_in plan.statements) plan.catalogue.tables }
     requires settings { AreSettings engine.now.settings.now }
     ensures { let shared = engine.now.settings.now.shared in
-        Answers engine.now.settings.now.tally (IsPieceTally shared engine.now.settings.now.cache P.gives) 1
-        (pieces_of shared (items_of plan.entry)) (λ pieces. task_text task.now P.gives (in_pieces pieces))
+        Answers engine.now.settings.now.tally (IsBundleTally shared engine.now.settings.now.cache P.gives) 1
+        (bundles_of shared (items_of plan)) (λ bundles. task_text task.now P.gives (in_bundles bundles))
         outputs.old outputs.new result }
 {
     if engine.settings.shared {
@@ -131,13 +128,14 @@ fn run_plan<O: Sink, N: Sink, P: Predicates + Sync, G: Gate, R: Threads + Wait +
 ) -> End
     requires run { All (IsRunnable (P.kinds_of engine.now.functions.now) plan.catalogue.tables) plan.statements }
     requires shared { engine.now.settings.now.shared ≡ true
-        → CanShare (map (λ b. b.block) plan.statements) plan.catalogue.tables }
+        → CanShare (blocks_in plan.statements) plan.catalogue.tables }
     requires settings { AreSettings engine.now.settings.now }
-    ensures out { AnsweredBy engine.now.settings.now.tally outputs.old outputs.new
-        (task_text task.now P.gives (items_of plan.entry)) result }
+    ensures out { let shared = engine.now.settings.now.shared in
+        AnsweredBy engine.now.settings.now.tally outputs.old outputs.new
+        (task_text task.now P.gives (in_bundles (bundles_of shared (items_of plan)))) result }
     ensures notes { let shared = engine.now.settings.now.shared in
-        Tallied engine.now.settings.now.tally (IsPieceTally shared engine.now.settings.now.cache P.gives) 1
-        (pieces_of shared (items_of plan.entry)) (λ pieces. task_text task.now P.gives (in_pieces pieces))
+        Tallied engine.now.settings.now.tally (IsBundleTally shared engine.now.settings.now.cache P.gives) 1
+        (bundles_of shared (items_of plan)) (λ bundles. task_text task.now P.gives (in_bundles bundles))
         outputs.old outputs.new (stop_of result) }
 {
     match put_task(engine, task, plan, outputs) {
@@ -158,6 +156,7 @@ fn run_query<F: Folder, O: Sink, N: Sink, P: Predicates + Sync, G: Gate, R: Thre
 ) -> End
     requires task { IsTask request.now.task }
     requires settings { AreSettings request.now.settings }
+    requires shared { request.now.settings.shared ≡ true → HasScansAlone request.now.task }
     ensures ran { let p = predicates (P.number_of functions.now) (P.kinds_of functions.now) P.gives in
         (words : List (List ℕ)) → asking.asked words ≡ Some request.now
         → Ran p words (world_seen (F.holds folder.old) (F.faults folder.old) outputs.old)
@@ -202,6 +201,7 @@ fn run_noted<F: Folder, O: Sink, N: Sink, P: Predicates + Sync, G: Gate, R: Thre
 ) -> Status
     requires task { IsTask request.now.task }
     requires settings { AreSettings request.now.settings }
+    requires shared { request.now.settings.shared ≡ true → HasScansAlone request.now.task }
     ensures finished { let p = predicates (P.number_of functions.now) (P.kinds_of functions.now) P.gives in
         (words : List (List ℕ)) → asking.asked words ≡ Some request.now
         → Finished p words (world_seen (F.holds folder.old) (F.faults folder.old) outputs.old)
@@ -247,12 +247,12 @@ fn run_words<F: Folder, O: Sink, N: Sink, P: Predicates + Sync, G: Gate, R: Thre
 /// before it. Want of memory may come at any point, and leaves a front of the text.
 ///
 /// With `--shared` all statements run together, in one eddy over one module for each table, before the first answer is
-/// written. With `--tally` a line of counts is put to the notes behind each answer, or one behind all of these. A fault there ends the run as `Write`,
-/// and nothing is put behind it.
+/// written. With `--tally` a line of counts is put to the notes behind each answer, or one behind all of these. A fault
+/// there ends the run as `Write`, and nothing is put behind it.
 ///
-/// Where the words ask for several workers, each runs in a thread of its own, waits for turns, and calls the gate
-/// in them, and a large answer is put in order and written by as many threads. With one worker no thread starts,
-/// no turn is waited for, and the gate isn't called.
+/// Where the words ask for several workers or a shared run, each worker runs in a thread of its own, waits for turns,
+/// and calls the gate in them. A large answer is put in order and written by as many threads as there are workers. With
+/// one worker and no shared run no thread starts, no turn is waited for, and the gate isn't called.
 pub fn run<F: Folder, O: Sink, N: Sink, P: Predicates + Sync, G: Gate, R: Threads + Wait + Sync>(
     host: &Host<'_, G, R>,
     functions: &P,
@@ -320,8 +320,9 @@ pub fn run<F: Folder, O: Sink, N: Sink, P: Predicates + Sync, G: Gate, R: Thread
         → AddsFront outputs.old.out.written outputs.new.out.written
         (text_due p (map string_bytes words.now) due)) }
 
-    // Where lines of counts are wanted, one stands on the notes for each statement of a run that is done,
-    // right for its statement, whose text the output took, and nothing else; else they are as they were.
+    // Where lines of counts are wanted, one stands on the notes for each statement of a run that is done, or one for
+    // all where they run together, right for what it is of, whose text the output took, and nothing else; else they
+    // are as they were.
     ensures tallied { let p = predicates (P.number_of functions.now) (P.kinds_of functions.now) P.gives in
         result ≡ Status.Done → OverGiven (map string_bytes words.now) (F.holds folder.old) (λ given. (lines : List ℕ)
         × AllLines p (map string_bytes words.now) given outputs.old.out outputs.new.out lines
@@ -331,8 +332,8 @@ pub fn run<F: Folder, O: Sink, N: Sink, P: Predicates + Sync, G: Gate, R: Thread
     ensures silent_count { result ≡ Status.Done
         → outputs.new.notes.faults ≡ outputs.old.notes.faults }
 
-    // Behind the lines of just the finished statements one line says why a run was refused; but nothing is put
-    // behind a fault of the notes at the line of the one whose text was last written.
+    // Behind the lines of just the finished statements, which run together or one after another, one line says why a
+    // run was refused; but nothing is put behind a fault of the notes at the line of what was last written.
     ensures noted { let p = predicates (P.number_of functions.now) (P.kinds_of functions.now) P.gives in
         result ≢ Status.Done → OverGiven (map string_bytes words.now) (F.holds folder.old) (λ given.
         ((lines : List ℕ)

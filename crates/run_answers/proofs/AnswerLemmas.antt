@@ -1,5 +1,5 @@
 -- Answers: the matches that are found, put in order, are the answer; and texts that are written one behind another.
-use Rattle.std.proofs.Common.{◌≡◌, ◌≢◌, ℕ, List, [], ◌∷◌, ◌++◌, length, take, get_or, map, Option, Result, Ok, Err, refl, sym, ◌∙◌, ap, subst, arith}
+use Rattle.std.proofs.Common.{◌≡◌, ◌≢◌, ℕ, List, [], ◌∷◌, ◌++◌, length, take, get_or, map, Option, Some, None, Result, Ok, Err, refl, sym, ◌∙◌, ap, subst, arith}
 use Rattle.std.specs.Prelude.{All, AllPairs, IfOk}
 use Rattle.std.specs.List.Sorted.{IsPermutation}
 use Rattle.std.specs.declared.cmp.Ordering.{Ordering}
@@ -30,7 +30,7 @@ use Rattle.bag_meaning.proofs.ProductRange.{bag-in_range}
 use Rattle.eddy_runs.specs.Complete.{IsBagOf}
 use Rattle.outside.proofs.Laws.{RoseOrFull-earlier, Adds-nothing, Adds-twice, AddsFront-nothing, AddsFront-after, AddsFront-longer}
 use Rattle.csv.specs.Writing.{row_text, default_writer}
-use Rattle.group_sink.specs.Lines.{lines_of, lines_text, in_product_order}
+use Rattle.group_sink.specs.Lines.{lines_text, in_product_order}
 use Rattle.group_sink.proofs.ProductLemmas.{product-order, rows-differ}
 use Rattle.result_sink.proofs.TextLemmas.{row_text-some}
 use Rattle.result_sink.specs.Ready.{IsShown, IsOrdered, Differs, rows_of_combo}
@@ -39,7 +39,7 @@ use Rattle.result_sink.specs.declared.fault.WriteFault.TheVariants as write
 use Rattle.run_answers.specs.Wrote.{Wrote}
 use Rattle.run_base.specs.Items.{Item}
 use Rattle.run_base.specs.Seen.{Sink}
-use Rattle.run_answers.specs.Text.{plain_text, shaped_text, answer_lines}
+use Rattle.run_answers.specs.Text.{plain_text, shaped_text, item_text, text_by}
 use Rattle.run_answers.proofs.ApartLemmas.{AreApart, AreApart-from_pairs, AreApart-permutation}
 
 -- ---- the answer
@@ -152,13 +152,6 @@ members_found gives block tables combos none found =
     sym (product-order block tables none (map (rows_of_combo block) combos) (bag gives block tables)
     (rows-differ block combos (apart_found gives block tables combos found)) (rows_found gives block tables combos found) rises)
 
--- and so a shape makes the same lines of it
-pub lines_made : (gives : ℕ → Value → Value → Truth) (item : Item) (shape : Shape) (combos : List Combo) → item.bound.block.order ≡ []
-    → IsBagOf gives item.bound.block item.tables combos
-    → lines_of item.bound.block item.tables shape (in_product_order (map (rows_of_combo item.bound.block) combos)) ≡ answer_lines gives item shape
-lines_made gives item shape combos none found =
-    ap (lines_of item.bound.block item.tables shape) (members_found gives item.bound.block item.tables combos none found)
-
 -- a block that fits can be put in order and written
 pub shown_fit : (kinds : ℕ → Option Kinds) (tables : List Relation) (block : Block) → IsFit kinds tables block → IsShown block tables
 shown_fit kinds tables block fit = record { few = fit.few_aliases; output = fit.output }
@@ -216,8 +209,8 @@ wrote_front old new first second e w = record {
 pub wrote_text : {S : Type 0} (old new : Sink S) (text other : List ℕ) (r : Result (Unit {0}) WriteFault) → text ≡ other → Wrote old new text r → Wrote old new other r
 wrote_text old new text other r e w = subst (λ (x : List ℕ). Wrote old new x r) e w
 
--- a text that begins with a record isn't empty
-begun : (xs ys : List ℕ) → xs ≢ [] → xs ++ ys ≡ [] → ⊥
+-- a text that begins with one that isn't empty isn't, either
+pub begun : (xs ys : List ℕ) → xs ≢ [] → xs ++ ys ≡ [] → ⊥
 begun [] ys n f = n refl
 begun (x ∷ xs) ys n f = cc
 
@@ -232,3 +225,11 @@ unfolding lines_text
 shaped_text-some gives item shape e =
     let names : List (List ℕ) = map (λ (c : Cell). c.name) shape.cells in
     begun (row_text default_writer names) _ (row_text-some names) e
+
+-- the text of an answer isn't empty
+pub item_text-some : (gives : ℕ → Value → Value → Truth) (item : Item) → item_text gives item ≢ []
+item_text-some gives item = by item.bound.shape
+  where
+    by : (shape : Option Shape) → text_by gives item shape ≢ []
+    by None = plain_text-some gives item
+    by (Some shape) = shaped_text-some gives item shape

@@ -6,3 +6,7 @@ pub mod TallyLemmas
 pub mod ProgressLemmas
 pub mod TextLemmas
 pub mod CountLemmas
+pub mod WorkerLemmas
+pub mod PutLemmas
+pub mod TogetherLemmas
+pub mod BundleLemmas

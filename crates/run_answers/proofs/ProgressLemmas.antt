@@ -9,8 +9,8 @@ use Rattle.outside.specs.Faults.{NeverFalls, RoseOrFull}
 use Rattle.outside.specs.Told.{Adds, AddsFront}
 use Rattle.outside.proofs.Laws.{Adds-nothing, Adds-twice, RoseOrFull-earlier}
 use Rattle.result_sink.specs.declared.fault.WriteFault.TheVariants as write
-use Rattle.run_answers.specs.Answering.{Answers, AnswersOne, Tallied, EndsSo, LinesPut, BrokeOff, of_output, line_bytes}
-use Rattle.run_answers.specs.Wrote.{Wrote}
+use Rattle.run_answers.specs.Answering.{Answers, AnswersOne, Tallied, EndsSo, LinesPut, BrokeOff, line_bytes}
+use Rattle.run_answers.specs.Wrote.{Wrote, of_output}
 use Rattle.run_answers.specs.SoFar.{IsFront, TookSoFar}
 use Rattle.run_base.specs.Seen.{Sink, Outputs}
 use Rattle.run_answers.specs.Lines.{AreLines, IsLine}
@@ -31,10 +31,10 @@ module _ {A : Type 0} where
     pub none : (n : ℕ) → all n [] ≡ []
     pub more : (n : ℕ) (b : A) (bs : List A) → all n (b ∷ bs) ≡ one n b ++ all (n + 1) bs
 
-  texts_one : (one : ℕ → A → List ℕ) (all : ℕ → List A → List ℕ) → AreTexts one all → (n : ℕ) (b : A) → all n (b ∷ []) ≡ one n b
+  pub texts_one : (one : ℕ → A → List ℕ) (all : ℕ → List A → List ℕ) → AreTexts one all → (n : ℕ) (b : A) → all n (b ∷ []) ≡ one n b
   texts_one one all t n b = t.more n b [] ∙ ap (λ (z : List ℕ). one n b ++ z) (t.none (n + 1)) ∙ append-nil (one n b)
 
-  texts_append : (one : ℕ → A → List ℕ) (all : ℕ → List A → List ℕ) → AreTexts one all → (n : ℕ) (xs ys : List A)
+  pub texts_append : (one : ℕ → A → List ℕ) (all : ℕ → List A → List ℕ) → AreTexts one all → (n : ℕ) (xs ys : List A)
       → all n (xs ++ ys) ≡ all n xs ++ all (n + length xs) ys
   texts_append one all t n [] ys =
       let same : n ≡ n + length {A = A} [] = omega arith in

@@ -4,30 +4,22 @@ use Rattle.std.specs.Prelude.{OnErr}
 use Rattle.std.specs.Result.{IsErrAnd}
 use Rattle.std.proofs.lemmas.List.{length-map}
 use Rattle.std.proofs.lemmas.Result.{err_from_is_err_and}
-use Rattle.sq_value.specs.Relation.{Relation}
 use Rattle.sq_value.specs.declared.value.Value.{Value}
 use Rattle.sq_value.specs.declared.value.Truth.{Truth}
-use Rattle.sq_expr.specs.declared.block.Block.{Block}
-use Rattle.sq_expr.specs.declared.shape.Shape.{Shape}
-use Rattle.bag_meaning.specs.Answer.{answer_text}
 use Rattle.bag_meaning.specs.declared.combo.Built.{Built}
 use Rattle.bag_meaning.specs.declared.combo.Combo.{Combo}
 use Rattle.eddy_runs.specs.Recorded.{IsRecorded}
 use Rattle.eddy_core.specs.Answer.{as_mark}
 use Rattle.eddy_core.specs.declared.answered.LookedUp.{LookedUp}
-use Rattle.result_sink.specs.Ready.{AddsPart, rows_of_combo}
-use Rattle.group_sink.specs.Lines.{lines_text}
-use Rattle.group_sink.specs.declared.line.Line.{Line}
-use Rattle.group_sink.specs.declared.line.Out.{Out}
+use Rattle.result_sink.specs.Ready.{AddsPart}
 use Rattle.result_sink.proofs.TextLemmas.{AddsPart-after}
 use Rattle.outside.specs.Told.{Adds}
 use Rattle.outside.proofs.Laws.{Adds-nothing, Adds-twice, AddsFront-whole}
 use Rattle.result_sink.specs.declared.fault.WriteFault.TheVariants as write
-use Rattle.run_answers.specs.Answering.{AnswersOne, PutBoth, IsLineFor, Lined, OnTold, of_output}
-use Rattle.run_answers.specs.Wrote.{Wrote}
+use Rattle.run_answers.specs.Answering.{AnswersOne, PutBoth, IsLineFor, Lined, OnTold}
+use Rattle.run_answers.specs.Wrote.{Wrote, of_output}
 use Rattle.run_base.specs.Items.{Item}
 use Rattle.run_base.specs.Seen.{Sink, Outputs}
-use Rattle.run_answers.specs.Text.{plain_text, shaped_text, text_by, item_text, answer_rows, answer_lines}
 use Rattle.run_answers.specs.Tally.{IsTally, hits_told, line_of_counts}
 use Rattle.run_answers.specs.declared.stopping.Stop.{Stop}
 use Rattle.run_answers.specs.declared.stopping.Stop.TheVariants as stop
@@ -115,19 +107,6 @@ pub put_text : {O N : Type 0} (text other : List ℕ) (line : Option (List ℕ))
     → PutBoth text line old new r → PutBoth other line old new r
 put_text text other line old new r e h = subst (λ (x : List ℕ). PutBoth x line old new r) e h
 
--- the text of equal combinations
-pub put_rows : {O N : Type 0} (block : Block) (tables : List Relation) (xs ys : List Combo) (line : Option (List ℕ)) (old new : Outputs O N) (r : Result (Unit {0}) Stop)
-    → xs ≡ ys → PutBoth (answer_text block tables (map (rows_of_combo block) xs)) line old new r
-    → PutBoth (answer_text block tables (map (rows_of_combo block) ys)) line old new r
-put_rows block tables xs ys line old new r e h =
-    subst (λ (cs : List Combo). PutBoth (answer_text block tables (map (rows_of_combo block) cs)) line old new r) e h
-
--- the text of equal lines
-pub put_lines : {O N : Type 0} (shape : Shape) (xs ys : List Line) (line : Option (List ℕ)) (old new : Outputs O N) (r : Result (Unit {0}) Stop) → xs ≡ ys
-    → PutBoth (lines_text shape (map (λ (l : Line). l.cells) xs)) line old new r → PutBoth (lines_text shape (map (λ (l : Line). l.cells) ys)) line old new r
-put_lines shape xs ys line old new r e h =
-    subst (λ (ls : List Line). PutBoth (lines_text shape (map (λ (l : Line). l.cells) ls)) line old new r) e h
-
 -- a line that is right, whether or not it was put
 told_anyway : {P : Type 0} (r : Result (Unit {0}) Stop) → P → OnTold r P
 told_anyway (Ok x) h = h
@@ -141,31 +120,6 @@ pub one_put : {A O N : Type 0} (tally : Bool) (IsRight : ℕ → A → List ℕ 
     → PutBoth text line old new r → AnswersOne tally IsRight number block other old new r
 one_put tally IsRight number block text other line old new r e right h =
     record { line = line; right = told_anyway r right; put = put_text text other line old new r e h }
-
--- the same of the rows of the answer
-pub one_found : {room : ℕ} {O N : Type 0} (tally : Bool) (gives : Gives) (number : ℕ) (item : Item) (rows : List (List ℕ)) (line : Option (List ℕ))
-    (old new : Outputs O N) (r : Result (Unit {0}) Stop) → rows ≡ answer_rows gives item → IsLineFor tally (IsTally room gives) number item line
-    → PutBoth (answer_text item.bound.block item.tables rows) line old new r
-    → AnswersOne tally (IsTally room gives) number item (plain_text gives item) old new r
-one_found {room} tally gives number item rows line old new r e right h =
-    one_put tally (IsTally room gives) number item (answer_text item.bound.block item.tables rows) (plain_text gives item) line old new r
-    (ap (λ (x : List (List ℕ)). answer_text item.bound.block item.tables x) e) right h
-
--- the same of the lines of a shape
-pub one_made : {room : ℕ} {O N : Type 0} (tally : Bool) (gives : Gives) (number : ℕ) (item : Item) (shape : Shape) (lines : List (List Out)) (line : Option (List ℕ))
-    (old new : Outputs O N) (r : Result (Unit {0}) Stop) → lines ≡ answer_lines gives item shape → IsLineFor tally (IsTally room gives) number item line
-    → PutBoth (lines_text shape lines) line old new r
-    → AnswersOne tally (IsTally room gives) number item (shaped_text gives item shape) old new r
-one_made {room} tally gives number item shape lines line old new r e right h =
-    one_put tally (IsTally room gives) number item (lines_text shape lines) (shaped_text gives item shape) line old new r
-    (ap (lines_text shape) e) right h
-
--- the text of an answer is that of its shape
-pub one_by : {room : ℕ} {O N : Type 0} (tally : Bool) (gives : Gives) (number : ℕ) (item : Item) (shape : Option Shape) (old new : Outputs O N) (r : Result (Unit {0}) Stop)
-    → item.bound.shape ≡ shape → AnswersOne tally (IsTally room gives) number item (text_by gives item shape) old new r
-    → AnswersOne tally (IsTally room gives) number item (item_text gives item) old new r
-one_by {room} tally gives number item shape old new r e h =
-    subst (λ (s : Option Shape). AnswersOne tally (IsTally room gives) number item (text_by gives item s) old new r) (sym e) h
 
 -- want of memory, before anything of a text was put
 pub one_unfound : {A O N : Type 0} (tally : Bool) (IsRight : ℕ → A → List ℕ → Type 0) (number : ℕ) (item : A) (text : List ℕ) (old : Outputs O N) → text ≢ []

@@ -7,9 +7,8 @@ use Rattle.eddy_runs.specs.Complete.{IsBagOf}
 use Rattle.outside.specs.Faults.{NeverFalls, RoseOrFull}
 use Rattle.outside.specs.Told.{Adds}
 use Rattle.result_sink.specs.Ready.{AddsPart}
-use Rattle.result_sink.specs.declared.fault.WriteFault.{WriteFault}
 use Rattle.result_sink.specs.declared.fault.WriteFault.TheVariants as write
-use Rattle.run_answers.specs.Wrote.{Wrote}
+use Rattle.run_answers.specs.Wrote.{Wrote, of_output}
 use Rattle.run_answers.specs.SoFar.{TookSoFar, AddsFrontBehind}
 use Rattle.run_base.specs.Items.{Item}
 use Rattle.run_base.specs.Seen.{Sink, Outputs}
@@ -18,13 +17,6 @@ use Rattle.run_answers.specs.Lines.{IsLine, AreLines}
 use Rattle.run_answers.specs.declared.answering.Found.{Found}
 use Rattle.run_answers.specs.declared.stopping.Stop.{Stop}
 use Rattle.run_answers.specs.declared.stopping.Stop.TheVariants as stop
-
--- what a step has done to the output, where it stopped so: a fault of the notes leaves a front of the text
-abbrev pub of_output : Result (Unit {0}) Stop → Result (Unit {0}) WriteFault
-of_output (Ok x) = Ok x
-of_output (Err stop.Output) = Err write.Failed
-of_output (Err stop.Notes) = Err write.Memory
-of_output (Err stop.Memory) = Err write.Memory
 
 -- a fault of the notes came at the line of the next statement, whose text was put, behind the lines of those before
 pub record BrokeOff {A O N : Type 0} (IsRight : ℕ → A → List ℕ → Type 0) (number : ℕ)

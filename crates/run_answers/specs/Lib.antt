@@ -7,3 +7,4 @@ pub mod SoFar
 pub mod Wrote
 pub mod Answering
 pub mod Together
+pub mod Joint

@@ -3,12 +3,18 @@ use Rattle.std.specs.Prelude.{ℕ, ◌+◌, List, [], ◌∷◌, ◌++◌, Optio
 use Rattle.std.specs.List.{flat_map}
 use Rattle.sq_value.specs.declared.value.Value.{Value}
 use Rattle.sq_value.specs.declared.value.Truth.{Truth}
+use Rattle.sq_expr.specs.declared.block.Block.{Block}
 use Rattle.sq_expr.specs.declared.shape.Shape.{Shape}
 use Rattle.bag_meaning.specs.Bag.{bag}
 use Rattle.bag_meaning.specs.Answer.{answer, answer_text}
 use Rattle.group_sink.specs.Lines.{lines_of, lines_text}
 use Rattle.group_sink.specs.declared.line.Out.{Out}
 use Rattle.run_base.specs.Items.{Item}
+use Rattle.run_base.specs.declared.bound.Bound.{Bound}
+
+-- the bound statement of a block and a shape, if there is one
+abbrev pub bound_as : Block → Option Shape → Bound
+bound_as block shape = record { block = block; shape = shape }
 
 -- the rows of a statement's answer, each as the rows of its aliases
 abbrev pub answer_rows : (ℕ → Value → Value → Truth) → Item → List (List ℕ)

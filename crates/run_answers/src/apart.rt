@@ -1,7 +1,9 @@
 //! Statements that run together: their blocks, apart from what is made of their matches.
 
-ghost use Rattle.std.specs.Prelude.{◌≡◌, IfOk, map};
+ghost use Rattle.std.specs.Prelude.{◌≡◌, IfOk, length, map};
 ghost use Rattle.run_base.specs.declared.bound.Bound.{Bound as TheBound};
+ghost use Rattle.run_answers.specs.Joint.{bounds_of};
+ghost use Rattle.run_answers.specs.Together.{blocks_in};
 
 use run_base::Bound;
 use sq_expr::{Block, Shape};
@@ -11,7 +13,7 @@ use std::alloc::Global;
 
 /// Statements in order: the block of each, and with groups, DISTINCT or LIMIT what is made of its matches.
 #[derive(Drop)]
-pub struct Statements {
+pub(crate) struct Statements {
     pub blocks: Vec<Block>,
     pub shapes: Vec<Option<Shape>>,
 }
@@ -20,16 +22,19 @@ pub struct Statements {
 ///
 /// # Errors
 /// There is no memory for the lists.
-pub fn apart(alloc: Global, mut bounds: Items<Bound>) -> Result<Statements, Memory>
-    ensures blocks { IfOk result (λ s. s.blocks.items ≡ map (λ (b : TheBound). b.block) bounds.entry) }
-    ensures shapes { IfOk result (λ s. s.shapes.items ≡ map (λ (b : TheBound). b.shape) bounds.entry) }
+#[tactic(auto, using(crate::proofs::TogetherLemmas::joined_is))]
+pub(crate) fn apart(alloc: Global, mut bounds: Items<Bound>) -> Result<Statements, Memory>
+    ensures blocks { IfOk result (λ s. s.blocks.items ≡ blocks_in bounds) }
+    ensures shapes { IfOk result (λ s. s.shapes.items ≡ map (λ (b : TheBound). b.shape) bounds) }
+    ensures bounds { IfOk result (λ s. bounds_of s ≡ bounds) }
+    ensures even { IfOk result (λ s. length s.shapes.items ≡ length s.blocks.items) }
 {
-    let mut blocks = Vec::with_capacity(alloc, bounds.len())?;
-    let mut shapes = Vec::with_capacity(alloc, bounds.len())?;
+    let mut blocks = Vec::new(alloc);
+    let mut shapes = Vec::new(alloc);
     while let Some(bound) = bounds.pop() {
         let Bound { block, shape } = bound;
-        blocks.push_reserved(block);
-        shapes.push_reserved(shape);
+        blocks.push(block)?;
+        shapes.push(shape)?;
     }
     blocks.reverse();
     shapes.reverse();

@@ -8,13 +8,12 @@ mod counting;
 mod engine;
 mod finding;
 mod settings;
-mod shaping;
 mod stopping;
 mod tallying;
 mod together;
+mod writing;
 
 pub use answering::put_answers;
-pub use apart::{Statements, apart};
 pub use counting::put_summary;
 pub use engine::Engine;
 pub use settings::Settings;

@@ -1,7 +1,9 @@
 //! Why a run stops at its answers.
 
+ghost use Rattle.std.specs.Prelude.{◌≡◌, ◌≢◌, Err};
+ghost use Rattle.run_answers.specs.Wrote.{of_output};
+
 use result_sink::WriteFault;
-use std::alloc::AllocError;
 
 /// Why answers and their lines of counts weren't put, whole.
 #[derive(Clone, Copy, Debug, PartialEq, Eq)]
@@ -12,4 +14,16 @@ pub enum Stop {
     Notes,
     /// Want of memory.
     Memory,
+}
+
+/// How a step stops that wrote a text so.
+pub(crate) fn stopped(written: Result<(), WriteFault>) -> Result<(), Stop>
+    ensures is { of_output result ≡ written }
+    ensures silent { result ≢ Err Stop.Notes }
+{
+    match written {
+        Ok(()) => Ok(()),
+        Err(WriteFault::Failed) => Err(Stop::Output),
+        Err(WriteFault::Memory) => Err(Stop::Memory),
+    }
 }

@@ -350,7 +350,15 @@ fn told<R: Threads + Wait + Sync>(rt: &R, alloc: Global, case: Case<'_>) -> Resu
 
 #[test]
 fn runs_end_as_they_must(rt: HostRuntime) -> Result<(), Fail> {
-    for cases in [DONE, TALLIED, REFUSED, LOOKED_UP, DEMO, shaped::SHAPED] {
+    for cases in [
+        DONE,
+        TALLIED,
+        REFUSED,
+        LOOKED_UP,
+        DEMO,
+        shaped::SHAPED,
+        shared::SHARED,
+    ] {
         for line in cases.lines() {
             if !told(&rt, rt.alloc(), case_of(line))? {
                 assert_eq!(rt; line, "");
@@ -468,4 +476,5 @@ fn sure_folder_and_sink(rt: HostRuntime) -> Result<(), Fail> {
 mod engine;
 mod limits;
 mod shaped;
+mod shared;
 mod workers;

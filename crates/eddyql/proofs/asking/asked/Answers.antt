@@ -1,10 +1,10 @@
-use Rattle.std.proofs.Common.{refl, sym, ◌∙◌, inr, map, ap, Some, subst}
+use Rattle.std.proofs.Common.{◌≡◌, true, refl, sym, ◌∙◌, inr, map, ap, Some, subst}
 use Rattle.std.specs.String.{string_bytes}
-use Rattle.command_line.specs.Within.{IsTask}
+use Rattle.command_line.specs.Within.{HasScansAlone, IsTask}
 use Rattle.run_answers.specs.Settings.{AreSettings}
 use Rattle.eddyql.specs.Asked.{request_of}
 use Rattle.eddyql.specs.declared.asking.Request.{Request}
-use Rattle.eddyql.proofs.AskedLemmas.{asked_of, asked_unrun, asked_none, request_within}
+use Rattle.eddyql.proofs.AskedLemmas.{asked_of, asked_unrun, asked_none, request_within, shared_within}
 use Rattle.eddyql.proofs.asking.asked.Goals as goal
 
 pub returns-then-is_run-clause-ok : goal.returns-then-is_run-clause-ok
@@ -30,3 +30,8 @@ returns-then-is_run-clause-task c =
 pub returns-then-is_run-clause-settings : goal.returns-then-is_run-clause-settings
 returns-then-is_run-clause-settings c =
     subst (λ (r : Request). AreSettings r.settings) (sym c.request_of-request.ensures) (request_within c.in-Ok.command c.in-Ok.ensures.within).1
+
+pub returns-then-is_run-clause-shared : goal.returns-then-is_run-clause-shared
+returns-then-is_run-clause-shared c =
+    subst (λ (r : Request). r.settings.shared ≡ true → HasScansAlone r.task) (sym c.request_of-request.ensures)
+    (shared_within c.in-Ok.command c.in-Ok.ensures.within)

@@ -1,5 +1,6 @@
 use Rattle.std.proofs.lemmas.Result.{IfOk-weaker, IfErr-weaker}
 use Rattle.eddyql.proofs.PlanLemmas.{went_query, went_demo, stopped_query, stopped_demo}
+use Rattle.eddyql.proofs.ShareLemmas.{can_share}
 use Rattle.eddyql.proofs.planning.plan_for.Goals as goal
 
 pub returns-in-Query-clause-went : goal.returns-in-Query-clause-went
@@ -21,3 +22,19 @@ pub returns-in-Demo-clause-stopped : goal.returns-in-Demo-clause-stopped
 returns-in-Demo-clause-stopped g c =
     IfErr-weaker c.prepare_demo.result _ _
     (λ s r. stopped_demo c.args.request.now.task c.in-Demo.rows _ c.args.request.now.settings.seed _ s c.in-Demo.is r) c.prepare_demo.ensures.refused
+
+pub returns-in-Query-clause-scanned : goal.returns-in-Query-clause-scanned
+returns-in-Query-clause-scanned g c = λ alone.
+    IfOk-weaker c.prepare.result _ _
+    (λ plan w.
+    let went = went_query c.args.request.now.task c.in-Query.query _ c.args.request.now.settings.seed _ _ plan c.in-Query.is w in
+    can_share _ c.args.request.now.task c.args.request.now.settings.seed _ went.given plan c.requires alone went.agrees went.tells)
+    c.prepare.ensures.went
+
+pub returns-in-Demo-clause-scanned : goal.returns-in-Demo-clause-scanned
+returns-in-Demo-clause-scanned g c = λ alone.
+    IfOk-weaker c.prepare_demo.result _ _
+    (λ plan h.
+    let went = went_demo c.args.request.now.task c.in-Demo.rows _ c.args.request.now.settings.seed _ plan c.in-Demo.is h in
+    can_share _ c.args.request.now.task c.args.request.now.settings.seed _ went.given plan c.requires alone went.agrees went.tells)
+    c.prepare_demo.ensures.ok

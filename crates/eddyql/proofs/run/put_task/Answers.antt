@@ -1,22 +1,13 @@
-use Rattle.std.proofs.Common.{◌≡◌, List, ◌∙◌, ap}
-use Rattle.sq_value.specs.Relation.{Relation}
-use Rattle.run_base.specs.Items.{items_over}
-use Rattle.eddyql.specs.Outcome.{items_of}
-use Rattle.eddyql.proofs.TaskLemmas.{answers_task}
+use Rattle.run_answers.proofs.BundleLemmas.{answers_each, answers_all_together}
+use Rattle.eddyql.specs.Outcome.{items_of, task_text}
 use Rattle.eddyql.proofs.run.put_task.Goals as goal
 
-pub returns-in-Query : goal.returns-in-Query
-returns-in-Query g c =
-    let same : items_over c.tables-tables.result.now c.as_slice-statements.result.now ≡ items_of c.args.plan.now =
-    ap (λ (ts : List Relation). items_over ts c.as_slice-statements.result.now) c.tables-tables.ensures
-    ∙ ap (items_over c.args.plan.now.catalogue.tables) c.as_slice-statements.ensures in
-    answers_task c.args.engine.now.settings.now.tally g.P.Predicates.gives _ _ c.args.task.now _ _ _ c.put_answers.result c.in-Query.is same
-    c.put_answers.ensures
+pub returns-then-engine-settings-shared : goal.returns-then-engine-settings-shared
+returns-then-engine-settings-shared g c =
+    answers_all_together c.args.engine.now.settings.now.shared c.args.engine.now.settings.now.tally c.args.engine.now.settings.now.cache g.P.Predicates.gives
+    (items_of c.args.plan) (task_text c.args.task.now g.P.Predicates.gives) _ _ c.put_together.result c.if-engine-settings-shared.true c.put_together.ensures
 
-pub returns-in-Demo : goal.returns-in-Demo
-returns-in-Demo g c =
-    let same : items_over c.tables-tables.result.now c.as_slice-statements.result.now ≡ items_of c.args.plan.now =
-    ap (λ (ts : List Relation). items_over ts c.as_slice-statements.result.now) c.tables-tables.ensures
-    ∙ ap (items_over c.args.plan.now.catalogue.tables) c.as_slice-statements.ensures in
-    answers_task c.args.engine.now.settings.now.tally g.P.Predicates.gives _ _ c.args.task.now _ _ _ c.put_summary.result c.in-Demo.is same
-    c.put_summary.ensures
+pub returns : goal.returns
+returns g c =
+    answers_each c.args.engine.now.settings.now.shared c.args.engine.now.settings.now.tally c.args.engine.now.settings.now.cache g.P.Predicates.gives
+    (items_of c.args.plan) (task_text c.args.task.now g.P.Predicates.gives) _ _ c.put_each.result c.if-engine-settings-shared.false c.put_each.ensures

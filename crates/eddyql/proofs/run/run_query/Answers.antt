@@ -1,7 +1,7 @@
 use Rattle.std.proofs.Common.{refl}
 use Rattle.eddyql.proofs.EndedLemmas.{ended_by_answers, ended_stopped}
 use Rattle.eddyql.proofs.PlanLemmas.{given_to}
-use Rattle.eddyql.proofs.RunLemmas.{lines_answered, lines_unput}
+use Rattle.eddyql.proofs.RunLemmas.{answered_whole, lines_answered, lines_unput}
 use Rattle.eddyql.proofs.run.run_query.Goals as goal
 
 pub returns-in-Ok-clause-ran : goal.returns-in-Ok-clause-ran
@@ -10,7 +10,8 @@ returns-in-Ok-clause-ran g c = λ words e.
     record {
       given = w.given;
       is_given = given_to words c.args.request.now _ w.given e w.agrees;
-      ended = ended_by_answers _ words c.args.request.now c.in-Ok.plan _ _ c.run_plan.result e w c.run_plan.ensures.out;
+      ended = ended_by_answers _ words c.args.request.now c.in-Ok.plan _ _ c.run_plan.result e w
+          (answered_whole _ c.args.request.now.settings.shared c.args.request.now.task _ _ _ _ c.run_plan.result c.run_plan.ensures.out);
       lines = lines_answered _ words c.args.request.now c.in-Ok.plan _ _ _ _ c.run_plan.result e w c.run_plan.ensures.notes;
     }
 

@@ -163,6 +163,21 @@ fn workers_take_turns(rt: HostRuntime) -> Result<(), Fail> {
     Ok(())
 }
 
+// In a shared run of a join of a table with itself and of a second statement over it, each row is built in one turn,
+// and probes once for each alias of the join. One statement after another takes more turns, since a row is then built
+// for each alias.
+#[test]
+fn shared_runs_take_turns(rt: HostRuntime) -> Result<(), Fail> {
+    let words = "! --shared --workers 2 --policy script --route v0 q n=n";
+    let script =
+        "SELECT a.x, b.x FROM n a, n b WHERE a.x = b.x; SELECT x FROM n WHERE x > 1 ORDER BY x";
+    assert_eq!(rt;
+        turns_of(&rt, rt.alloc(), words, script, "x,x/1,1/2,2/3,3//x/2/3/")?,
+        Some(9)
+    );
+    Ok(())
+}
+
 // A gate at which workers 0 and 1 meet: each waits in its first turn of the module of its own number
 // until the other is in such a turn, or for 50,000,000 rounds. How many waited in vain is counted.
 #[derive(Drop)]

@@ -1,0 +1,155 @@
+//! Writes the answer of a statement by its matches: its rows in order, or with groups, DISTINCT or LIMIT the lines that
+//! are made of them.
+
+ghost use Rattle.std.specs.Prelude.{◌≡◌, ◌∷◌, [], Err, IfOk, OnErr, map};
+ghost use Rattle.sq_expr.specs.Fits.{IsFit};
+ghost use Rattle.bag_meaning.specs.Answer.{answer, answer_text};
+ghost use Rattle.bag_meaning.specs.Bag.{bag};
+ghost use Rattle.eddy_runs.specs.Complete.{IsBagOf};
+ghost use Rattle.group_sink.specs.Lines.{lines_of, lines_text};
+ghost use Rattle.group_sink.specs.declared.line.Line.{Line as TheLine};
+ghost use Rattle.result_sink.specs.Ready.{rows_of_combo};
+ghost use Rattle.run_base.specs.Items.{item_over};
+ghost use Rattle.run_base.specs.Runnable.{IsRunnable, IsShapeFor};
+ghost use Rattle.run_base.specs.Seen.{sink_seen};
+ghost use Rattle.run_answers.specs.Text.{bound_as, item_text};
+ghost use Rattle.run_answers.specs.Wrote.{Put, Wrote, of_output};
+
+use crate::engine::Engine;
+use crate::stopping::{Stop, stopped};
+use bag_meaning::Combo;
+use group_sink::{Line, report, write_report};
+use outside::Sink;
+use result_sink::{in_order_by, write_answer_by};
+use sq_expr::{Block, Shape};
+use sq_value::{Memory, Predicates, Tables};
+use std::alloc::Global;
+use std::thread::Threads;
+
+// The matches of a statement without a shape, in the order of its answer.
+fn rows_in_order<P: Predicates, G, R: Threads + Sync>(
+    engine: &Engine<'_, P, G, R>,
+    block: &Block,
+    tables: &Tables,
+    combos: Vec<Combo>,
+) -> Result<Vec<Combo>, Memory>
+    requires fits { IsFit (P.kinds_of engine.now.functions.now) tables.now block.now }
+    requires found { IsBagOf P.gives block.now tables.now combos.items }
+    ensures { IfOk result (λ sorted. map (rows_of_combo block.now) sorted.items ≡ answer P.gives block.now tables.now) }
+{
+    let threads = engine.settings.workers as usize;
+    in_order_by(engine.rt, threads, block, tables, combos)
+}
+
+// Writes the rows of an answer by its matches, in order, by as many threads as there are workers.
+fn write_rows<O: Sink, P: Predicates, G, R: Threads + Sync>(
+    engine: &Engine<'_, P, G, R>,
+    block: &Block,
+    tables: &Tables,
+    combos: Vec<Combo>,
+    out: &mut O,
+) -> Result<(), Stop>
+    requires fits { IsFit (P.kinds_of engine.now.functions.now) tables.now block.now }
+    requires found { IsBagOf P.gives block.now tables.now combos.items }
+    ensures { Put (answer_text block.now tables.now (answer P.gives block.now tables.now))
+        (sink_seen out.old (O.written out.old) (O.faults out.old))
+        (sink_seen out.new (O.written out.new) (O.faults out.new)) result }
+{
+    let rt = engine.rt;
+    let alloc = engine.alloc;
+    let threads = engine.settings.workers as usize;
+    let Ok(combos) = rows_in_order(engine, block, tables, combos) else {
+        return Err(Stop::Memory);
+    };
+    let combos = combos.as_slice();
+    let written = write_answer_by(rt, alloc, threads, block, tables, combos, out);
+    stopped(written)
+}
+
+// What a shape makes of the matches of a statement.
+fn lines_made<P: Predicates>(
+    alloc: Global,
+    functions: &P,
+    block: &Block,
+    shape: &Shape,
+    tables: &Tables,
+    combos: &[Combo],
+) -> Result<Vec<Line>, Memory>
+    requires fits { IsFit (P.kinds_of functions.now) tables.now block.now }
+    requires shaped { IsShapeFor tables.now block.now shape.now }
+    requires found { IsBagOf P.gives block.now tables.now combos.now }
+    ensures { IfOk result (λ lines. map (λ (line : TheLine). line.cells) lines.items
+        ≡ lines_of block.now tables.now shape.now (bag P.gives block.now tables.now)) }
+{
+    let _functions = functions;
+    report(alloc, block, shape, tables, combos)
+}
+
+// Writes the lines that a shape makes of the matches of a statement.
+fn write_lines<O: Sink, P: Predicates>(
+    alloc: Global,
+    functions: &P,
+    block: &Block,
+    shape: &Shape,
+    tables: &Tables,
+    combos: &[Combo],
+    out: &mut O,
+) -> Result<(), Stop>
+    requires fits { IsFit (P.kinds_of functions.now) tables.now block.now }
+    requires shaped { IsShapeFor tables.now block.now shape.now }
+    requires found { IsBagOf P.gives block.now tables.now combos.now }
+    ensures { Put (lines_text shape.now (lines_of block.now tables.now shape.now (bag P.gives block.now tables.now)))
+        (sink_seen out.old (O.written out.old) (O.faults out.old))
+        (sink_seen out.new (O.written out.new) (O.faults out.new)) result }
+{
+    let Ok(lines) = lines_made(alloc, functions, block, shape, tables, combos) else {
+        return Err(Stop::Memory);
+    };
+    let written = write_report(alloc, shape, lines.as_slice(), out);
+    stopped(written)
+}
+
+/// Writes the text of a statement's answer by its matches: its rows, or the lines that its shape makes of them.
+///
+/// # Errors
+/// `Output`: the output's count of faults rose. `Memory`: there is no memory for the order, a record or the lines, and
+/// not all of the text was written. After either, a front of it was.
+pub(crate) fn write_text<O: Sink, P: Predicates, G, R: Threads + Sync>(
+    engine: &Engine<'_, P, G, R>,
+    block: &Block,
+    shape: &Option<Shape>,
+    tables: &Tables,
+    combos: Vec<Combo>,
+    out: &mut O,
+) -> Result<(), Stop>
+    requires runs { IsRunnable (P.kinds_of engine.now.functions.now) tables.now (bound_as block.now shape.now) }
+    requires found { IsBagOf P.gives block.now tables.now combos.items }
+    ensures { Put (item_text P.gives (item_over tables.now (bound_as block.now shape.now)))
+        (sink_seen out.old (O.written out.old) (O.faults out.old))
+        (sink_seen out.new (O.written out.new) (O.faults out.new)) result }
+{
+    let alloc = engine.alloc;
+    let functions = engine.functions;
+    match shape {
+        None => write_rows(engine, block, tables, combos, out),
+        Some(shape) => {
+            let combos = combos.as_slice();
+            write_lines(alloc, functions, block, shape, tables, combos, out)
+        }
+    }
+}
+
+/// The empty line before an answer: one put.
+///
+/// # Errors
+/// `Output`: the output's count of faults rose.
+pub(crate) fn put_empty_line<O: Sink>(out: &mut O) -> Result<(), Stop>
+    ensures wrote { Wrote (sink_seen out.old (O.written out.old) (O.faults out.old))
+        (sink_seen out.new (O.written out.new) (O.faults out.new)) (10 ∷ []) (of_output result) }
+    ensures output { OnErr result (result ≡ Err Stop.Output) }
+{
+    match out.put(b"\n") {
+        Ok(()) => Ok(()),
+        Err(_) => Err(Stop::Output),
+    }
+}
