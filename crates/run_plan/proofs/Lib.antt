@@ -4,3 +4,7 @@ pub mod FilesLemmas
 pub mod AccessLemmas
 pub mod BindingLemmas
 pub mod PlanLemmas
+pub mod OnePlan
+mod DemoTree
+mod DemoReading
+pub mod DemoBinding

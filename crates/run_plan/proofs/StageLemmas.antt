@@ -7,6 +7,7 @@ use Rattle.run_plan.specs.Doing.{never}
 use Rattle.run_plan.specs.Naming.{IsNamed, IsFileOf, IsAccessOf, file_named, access_named, tables_to}
 use Rattle.run_plan.specs.declared.status.FileOf.{FileOf}
 use Rattle.run_plan.specs.declared.status.FileOf.TheVariants as file
+use Rattle.run_plan.specs.declared.status.LimitOf.TheVariants as limit
 use Rattle.run_plan.specs.declared.status.Stage.{Stage}
 use Rattle.run_plan.specs.declared.status.Stage.TheVariants as stage
 use Rattle.run_plan.specs.declared.status.Status.{Status}
@@ -124,3 +125,22 @@ MayRefuse-read reached rose P s read h = by (file_unread s) refl h
         → MatchOption o (RefusesIn (phase_of s) P) (λ f. rose × reached f)
     by None e k = k
     by (Some f) e k = (read f (read_only s f e), k)
+
+-- where nothing is expected, a step that touches no folder refuses for want of memory alone
+pub memory_alone : (P : Type 0) (s : Status) → (P → ⊥) → MayRefuse never P s → s ≡ status.Memory
+memory_alone P status.Memory f may = refl
+memory_alone P status.Done f may = absurd may
+memory_alone P status.Usage f may = absurd (f may)
+memory_alone P (status.Script fault) f may = absurd (f may)
+memory_alone P (status.Bind statement fault) f may = absurd (f may)
+memory_alone P (status.BadTable table fault) f may = absurd (f may)
+memory_alone P (status.NoColumn access) f may = absurd (f may)
+memory_alone P (status.NotFound file.Script) f may = absurd (f may)
+memory_alone P (status.NotFound (file.Table number)) f may = absurd (f may)
+memory_alone P (status.Read it) f may = absurd may
+memory_alone P status.Write f may = absurd may
+memory_alone P (status.Limit (limit.File file.Script)) f may = absurd (f may)
+memory_alone P (status.Limit (limit.File (file.Table number))) f may = absurd (f may)
+memory_alone P (status.Limit (limit.Parse fault)) f may = absurd (f may)
+memory_alone P (status.Limit (limit.Table number fault)) f may = absurd (f may)
+memory_alone P (status.Limit (limit.Bind statement fault)) f may = absurd (f may)

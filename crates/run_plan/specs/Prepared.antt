@@ -86,6 +86,10 @@ unfoldable pub IsDemoPlan : Predicates → ℕ → ℕ → Result Plan Status �
 IsDemoPlan p rows seed due =
     AndThen (IsSpelled demo_script) (λ script. IsBoundPlan p [] script (demo rows (seed % 1000))) due
 
+-- the demo has a plan
+abbrev pub HasDemoPlan : Predicates → ℕ → ℕ → Type 0
+HasDemoPlan p rows seed = (plan : Plan) × IsDemoPlan p rows seed (Ok plan)
+
 -- whether a file is one of these tables', and all tables before it are there and in form
 abbrev pub ReachedTable : List (Option (List ℕ)) → FileOf → Type 0
 ReachedTable founds file.Script = ⊥

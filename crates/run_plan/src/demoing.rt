@@ -52,11 +52,11 @@ fn plan_demo<P: Predicates>(
     }
 }
 
-/// The plan of the demo, with so many rows a table.
+/// The plan of the demo, with so many rows a table. It has one whatever the rows, the seed and the predicates: its
+/// script is one, and each of its statements binds and can be reached (`planned`).
 ///
 /// # Errors
-/// `Memory`. That its script reads, and its statements bind, isn't proved; so any refusal of a script
-/// or a statement is one here, in the letter.
+/// `Memory`: there is no memory for it.
 pub fn prepare_demo<P: Predicates>(
     alloc: Global,
     rows: u32,
@@ -70,6 +70,9 @@ pub fn prepare_demo<P: Predicates>(
         All (IsRunnable (P.kinds_of functions.now) plan.catalogue.tables) plan.statements) }
     ensures refused { let p = predicates (P.number_of functions.now) (P.kinds_of functions.now) P.gives in
         IfErr result (λ s. Refuses 0 0 (spec.IsDemoPlan p rows seed (Err s)) s) }
+    ensures planned { let p = predicates (P.number_of functions.now) (P.kinds_of functions.now) P.gives in
+        spec.HasDemoPlan p rows seed }
+    ensures memory { IfErr result (λ s. s ≡ Status.Memory) }
 {
     match parse_script(alloc, queries().as_bytes()) {
         Ok(script) => plan_demo(alloc, rows, seed, &script, functions),

@@ -2,8 +2,8 @@ mod Walk
 mod VisibleLemmas
 mod FaultLemmas
 mod OperandLemmas
-mod ConditionLemmas
-mod SplitLemmas
+pub mod ConditionLemmas
+pub mod SplitLemmas
 mod SelectLemmas
 mod OrderLemmas
 mod ColumnLemmas
