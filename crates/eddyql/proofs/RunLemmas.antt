@@ -68,6 +68,13 @@ plan_stopped tally IsRight all text old new r y e a =
     by stop.Notes b = (answered_notes tally old new (text all) b.out b.notes.end'.1 b.notes.end'.0.rose, b.notes)
     by stop.Memory b = (answered_memory tally old new (text all) b.out, b.notes)
 
+-- the lines of an equal end
+pub tallied_is : {A O N : Type 0} (tally : Bool) (IsRight : ℕ → A → List ℕ → Type 0) (all : List A) (text : List A → List ℕ)
+    (old new : Outputs O N) (r q : Result (Unit {0}) Stop) → r ≡ q → Tallied tally IsRight 1 all text old new r
+    → Tallied tally IsRight 1 all text old new q
+tallied_is tally IsRight all text old new r q e h =
+    subst (λ (x : Result (Unit {0}) Stop). Tallied tally IsRight 1 all text old new x) e h
+
 -- the text of all bundles is that of all statements
 pub answered_whole : {O N : Type 0} (tally shared : Bool) (t : Task) (gives : ℕ → Value → Value → Truth) (items : List Item) (old new : Outputs O N) (e : End)
     → AnsweredBy tally old new (task_text t gives (in_bundles (bundles_of shared items))) e → AnsweredBy tally old new (task_text t gives items) e

@@ -116,23 +116,25 @@ unfolding AreBoundTo AreScanned
 all_bound scope scans number [] bounds e =
     let none : [] ≡ bounds = cc in
     subst (λ (l : List Bound). (length l ≡ 0) × All IsScannedAlone (blocks_in l)) none (refl, All-nil IsScannedAlone)
-all_bound scope scans number (s ∷ more) bounds h = by h.0 h.1 h.2
+all_bound scope scans number (s ∷ more) bounds h = by (λ rest k. all_bound scope scans (number + 1) more rest k) h.0 h.1 h.2
   where
     made : (bound : Bound) (rest : List Bound) → ◌≡◌ {A = Result (List Bound) Status} (Ok bounds) (Ok (bound ∷ rest)) → bound ∷ rest ≡ bounds
     made bound rest e = cc
 
-    behind : (bound : Bound) → IsBoundAs scope s bound.block bound.shape → (r : Result (List Bound) Status) → AreBoundTo scope (number + 1) more r
+    behind : ((rest : List Bound) → AreBoundTo scope (number + 1) more (Ok rest) → AreScanned more rest)
+        → (bound : Bound) → IsBoundAs scope s bound.block bound.shape → (r : Result (List Bound) Status) → AreBoundTo scope (number + 1) more r
         → Behind (λ bounds. ComesTo (Ok (bound ∷ bounds))) r (Ok bounds) → AreScanned (s ∷ more) bounds
-    behind bound b (Err refusal) k e = absurd cc
-    behind bound b (Ok rest) k e =
+    behind again bound b (Err refusal) k e = absurd cc
+    behind again bound b (Ok rest) k e =
         subst (AreScanned (s ∷ more)) (made bound rest e)
-        (one_more s more bound rest (bound_scanned scope scans s bound.block bound.shape b) (all_bound scope scans (number + 1) more rest k))
+        (one_more s more bound rest (bound_scanned scope scans s bound.block bound.shape b) (again rest k))
 
-    by : (r : Result Bound Status) → IsBoundTo scope number s r
+    by : ((rest : List Bound) → AreBoundTo scope (number + 1) more (Ok rest) → AreScanned more rest)
+        → (r : Result Bound Status) → IsBoundTo scope number s r
         → Behind (λ bound. AndThen (AreBoundTo scope (number + 1) more) (λ bounds. ComesTo (Ok (bound ∷ bounds)))) r (Ok bounds)
         → AreScanned (s ∷ more) bounds
-    by (Err refusal) b e = absurd cc
-    by (Ok bound) b k = behind bound b k.0 k.1 k.2
+    by again (Err refusal) b e = absurd cc
+    by again (Ok bound) b k = behind again bound b k.0 k.1 k.2
 
 -- ---- the script and the tables
 
@@ -156,15 +158,17 @@ some_statements text script h = subst (λ (s : Script). 0 < length s.statements)
 read_long : (number : ℕ) (founds : List (Option (List ℕ))) (tables : List Relation) → tables_read number founds ≡ Ok tables → length tables ≡ length founds
 unfolding tables_read
 read_long number [] tables e = let none : [] ≡ tables = cc in sym (ap length none)
-read_long number (x ∷ xs) tables e = by (table_read number x) (tables_read (number + 1) xs) refl e
+read_long number (x ∷ xs) tables e =
+    by (λ ts f. read_long (number + 1) xs ts f) (table_read number x) (tables_read (number + 1) xs) refl e
   where
-    by : (a : Result Relation Status) (b : Result (List Relation) Status) → tables_read (number + 1) xs ≡ b
+    by : ((ts : List Relation) → tables_read (number + 1) xs ≡ Ok ts → length ts ≡ length xs)
+        → (a : Result Relation Status) (b : Result (List Relation) Status) → tables_read (number + 1) xs ≡ b
         → (a >>= (λ t. b >>= (λ ts. Ok (t ∷ ts)))) ≡ Ok tables → length tables ≡ suc (length xs)
-    by (Err s) b f g = absurd cc
-    by (Ok t) (Err s) f g = absurd cc
-    by (Ok t) (Ok ts) f g =
+    by again (Err s) b f g = absurd cc
+    by again (Ok t) (Err s) f g = absurd cc
+    by again (Ok t) (Ok ts) f g =
         let made : t ∷ ts ≡ tables = cc in
-        let long = read_long (number + 1) xs ts f in sym (ap length made) ∙ omega (arith, long)
+        let long = again ts f in sym (ap length made) ∙ omega (arith, long)
 
 tables_long : (founds : List (Option (List ℕ))) (words : List TableWord) (catalogue : NamedTables) → Ok catalogue ≡ catalogue_read founds words
     → length catalogue.tables ≡ length founds

@@ -1,6 +1,6 @@
 //! The top call: from words, files and an output to a status.
 
-ghost use Rattle.std.specs.Prelude.{◌≡◌, ◌≢◌, ◌⊎◌, ℕ, true, false, List, Some, None, IsSome, All, map, length};
+ghost use Rattle.std.specs.Prelude.{◌≡◌, ◌≢◌, ◌⊎◌, ◌∷◌, [], ℕ, true, false, List, Some, None, IsSome, All, map, length};
 ghost use Rattle.std.specs.String.{string_bytes};
 ghost use Rattle.outside.specs.Faults.{NeverFalls, RoseOrFull};
 ghost use Rattle.outside.specs.Told.{Adds, AddsFront};

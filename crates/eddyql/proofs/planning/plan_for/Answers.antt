@@ -1,4 +1,6 @@
+use Rattle.std.proofs.Common.{None}
 use Rattle.std.proofs.lemmas.Result.{IfOk-weaker, IfErr-weaker}
+use Rattle.run_base.specs.Seen.{Folder}
 use Rattle.eddyql.proofs.PlanLemmas.{went_query, went_demo, stopped_query, stopped_demo}
 use Rattle.eddyql.proofs.ShareLemmas.{can_share}
 use Rattle.eddyql.proofs.planning.plan_for.Goals as goal
@@ -31,10 +33,14 @@ returns-in-Query-clause-scanned g c = λ alone.
     can_share _ c.args.request.now.task c.args.request.now.settings.seed _ went.given plan c.requires alone went.agrees went.tells)
     c.prepare.ensures.went
 
+-- a folder that tells nothing: the demo loads none
+abbrev untold : Folder
+untold = record { holds = None; faults = 0 }
+
 pub returns-in-Demo-clause-scanned : goal.returns-in-Demo-clause-scanned
 returns-in-Demo-clause-scanned g c = λ alone.
     IfOk-weaker c.prepare_demo.result _ _
     (λ plan h.
-    let went = went_demo c.args.request.now.task c.in-Demo.rows _ c.args.request.now.settings.seed _ plan c.in-Demo.is h in
-    can_share _ c.args.request.now.task c.args.request.now.settings.seed _ went.given plan c.requires alone went.agrees went.tells)
+    let went = went_demo c.args.request.now.task c.in-Demo.rows _ c.args.request.now.settings.seed untold plan c.in-Demo.is h in
+    can_share _ c.args.request.now.task c.args.request.now.settings.seed None went.given plan c.requires alone went.agrees went.tells)
     c.prepare_demo.ensures.ok

@@ -2,12 +2,12 @@ use Rattle.run_answers.proofs.BundleLemmas.{answers_each, answers_all_together}
 use Rattle.eddyql.specs.Outcome.{items_of, task_text}
 use Rattle.eddyql.proofs.run.put_task.Goals as goal
 
-pub returns-then-engine-settings-shared : goal.returns-then-engine-settings-shared
-returns-then-engine-settings-shared g c =
+pub returns-then-engine : goal.returns-then-engine
+returns-then-engine g c =
     answers_all_together c.args.engine.now.settings.now.shared c.args.engine.now.settings.now.tally c.args.engine.now.settings.now.cache g.P.Predicates.gives
-    (items_of c.args.plan) (task_text c.args.task.now g.P.Predicates.gives) _ _ c.put_together.result c.if-engine-settings-shared.true c.put_together.ensures
+    (items_of c.args.plan) (task_text c.args.task.now g.P.Predicates.gives) _ _ c.put_together.result c.if-engine.true c.put_together.ensures
 
 pub returns : goal.returns
 returns g c =
     answers_each c.args.engine.now.settings.now.shared c.args.engine.now.settings.now.tally c.args.engine.now.settings.now.cache g.P.Predicates.gives
-    (items_of c.args.plan) (task_text c.args.task.now g.P.Predicates.gives) _ _ c.put_each.result c.if-engine-settings-shared.false c.put_each.ensures
+    (items_of c.args.plan) (task_text c.args.task.now g.P.Predicates.gives) _ _ c.put_each.result c.if-engine.false c.put_each.ensures

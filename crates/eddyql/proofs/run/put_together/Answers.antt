@@ -11,8 +11,8 @@ returns-in-Query g c =
     c.args.task.now _ _ _ c.put_answers_together.result c.in-Query.is
     (ap (λ (ts : List Relation). items_over ts c.args.plan.statements ∷ []) c.tables-tables.ensures) c.put_answers_together.ensures
 
-pub returns-in-Demo : goal.returns-in-Demo
-returns-in-Demo g c =
+pub returns : goal.returns
+returns g c =
     answers_task c.args.engine.now.settings.now.tally (IsSharedTally g.P.Predicates.gives) g.P.Predicates.gives (λ (bundles : List (List Item)). in_bundles bundles) _ _
     c.args.task.now _ _ _ c.put_summary_together.result c.in-Demo.is
     (ap (λ (ts : List Relation). items_over ts c.args.plan.statements ∷ []) c.tables-tables.ensures) c.put_summary_together.ensures

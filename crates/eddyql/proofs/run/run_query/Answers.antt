@@ -1,4 +1,5 @@
 use Rattle.std.proofs.Common.{refl}
+use Rattle.eddyql.specs.Outcome.{items_of}
 use Rattle.eddyql.proofs.EndedLemmas.{ended_by_answers, ended_stopped}
 use Rattle.eddyql.proofs.PlanLemmas.{given_to}
 use Rattle.eddyql.proofs.RunLemmas.{answered_whole, lines_answered, lines_unput}
@@ -11,7 +12,8 @@ returns-in-Ok-clause-ran g c = λ words e.
       given = w.given;
       is_given = given_to words c.args.request.now _ w.given e w.agrees;
       ended = ended_by_answers _ words c.args.request.now c.in-Ok.plan _ _ c.run_plan.result e w
-          (answered_whole _ c.args.request.now.settings.shared c.args.request.now.task _ _ _ _ c.run_plan.result c.run_plan.ensures.out);
+          (answered_whole c.args.request.now.settings.tally c.args.request.now.settings.shared c.args.request.now.task g.P.Predicates.gives (items_of c.in-Ok.plan)
+          c.args.outputs.now c.run_plan.new.outputs c.run_plan.result c.run_plan.ensures.out);
       lines = lines_answered _ words c.args.request.now c.in-Ok.plan _ _ _ _ c.run_plan.result e w c.run_plan.ensures.notes;
     }
 
