@@ -2,6 +2,7 @@ pub mod AskedLemmas
 pub mod StageLemmas
 pub mod TaskLemmas
 pub mod OneOutcome
+pub mod DemoLemmas
 pub mod PlanLemmas
 pub mod ShareLemmas
 pub mod EndedLemmas

@@ -1,5 +1,5 @@
 -- What the words of the command line ask to be run.
-use Rattle.std.specs.Prelude.{ℕ, Bool, true, false, ◌==◌, List, [], length, Option, Some, None, option_map, option_and_then, if◌then◌else◌}
+use Rattle.std.specs.Prelude.{◌≡◌, ℕ, Bool, true, false, ◌==◌, List, [], length, Option, Some, None, option_map, option_and_then, if◌then◌else◌}
 use Rattle.std.specs.Option.{option_map_or}
 use Rattle.command_line.specs.Form.{command}
 use Rattle.command_line.specs.declared.command.AccessWord.{AccessWord}
@@ -35,6 +35,13 @@ loads_none (Demo rows) = true
 -- whether words ask for no file to be loaded: they aren't in form, or ask for the demo
 abbrev pub are_fileless : List (List ℕ) → Bool
 are_fileless words = option_map_or (λ (a : Request). loads_none a.task) (asked words) true
+
+-- words ask for the demo
+pub record IsDemoAsked (words : List (List ℕ)) : Type 0 where
+  pub request : Request
+  pub in_form : asked words ≡ Some request
+  pub rows : ℕ
+  pub task : request.task ≡ Demo rows
 
 -- the tables of the words: the demo has none
 abbrev pub tables_in : Task → List TableWord

@@ -1,10 +1,11 @@
 -- How a run may end, beside the outcome of its words over the files.
-use Rattle.std.specs.Prelude.{◌≡◌, Option, None, Some, MatchOption, ⊤}
+use Rattle.std.specs.Prelude.{◌≡◌, ◌⊎◌, Option, None, Some, MatchOption, ⊤}
 use Rattle.run_plan.specs.Stage.{Phase, Before, Writing, AnyTime, phase_of, stage_of, file_unread}
 use Rattle.run_plan.specs.declared.status.FileOf.{FileOf}
 use Rattle.run_plan.specs.declared.status.Stage.{Stage}
 use Rattle.run_plan.specs.declared.status.Stage.TheVariants as stage
 use Rattle.run_plan.specs.declared.status.Status.{Status}
+use Rattle.run_plan.specs.declared.status.Status.TheVariants as status
 use Rattle.eddyql.specs.Outcome.{Due, IsTextDue}
 
 -- a run ends at this stage: done, where nothing refuses; by a fault of the output that has its reason, where a text is
@@ -38,3 +39,7 @@ IsSilent AnyTime = ⊥
 -- a refusal before anything is due to be written
 abbrev pub IsBeforeOutput : Status → Type 0
 IsBeforeOutput s = IsSilent (phase_of s)
+
+-- the ends of a run whose outcome refuses nothing
+abbrev pub IsUnrefused : Status → Type 0
+IsUnrefused s = (s ≡ status.Done) ⊎ ((s ≡ status.Write) ⊎ (s ≡ status.Memory))

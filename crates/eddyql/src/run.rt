@@ -18,12 +18,12 @@ ghost use Rattle.run_answers.specs.Settings.{AreSettings};
 ghost use Rattle.run_answers.specs.Tally.{IsTally};
 ghost use Rattle.run_answers.specs.Together.{IsBundleTally, IsSharedTally, blocks_in, in_bundles, bundles_of};
 ghost use Rattle.shared_eddy.specs.Sharing.{CanShare};
-ghost use Rattle.eddyql.specs.Asked.{names_asked, tables_asked, accesses_asked, is_tallied, loads_none, are_fileless};
+ghost use Rattle.eddyql.specs.Asked.{IsDemoAsked, names_asked, tables_asked, accesses_asked, is_tallied, loads_none, are_fileless};
 ghost use Rattle.eddyql.specs.Asked as asking;
 ghost use Rattle.eddyql.specs.Ending.{AnsweredBy, Ran, Finished, stop_of};
 ghost use Rattle.eddyql.specs.Lines.{AllLines, SomeLines, IsCutOff, IsNotedBehind, MayFail};
 ghost use Rattle.eddyql.specs.Outcome.{Due, IsOutcome, OneOutcome, OverGiven, ReachedBy, items_of, status_of, task_text, text_due};
-ghost use Rattle.eddyql.specs.Run.{MayEnd, IsBeforeOutput};
+ghost use Rattle.eddyql.specs.Run.{MayEnd, IsBeforeOutput, IsUnrefused};
 
 use crate::asking::{Request, asked};
 use crate::host::Host;
@@ -303,6 +303,9 @@ pub fn run<F: Folder, O: Sink, N: Sink, P: Predicates + Sync, G: Gate, R: Thread
     ensures write { result ≡ Status.Write
         → MayFail (map string_bytes words.now) outputs.old outputs.new }
     ensures not_found { (file : FileOf) → result ≡ Status.NotFound file → IsSome (F.holds folder.old) }
+
+    // The demo has a plan: it ends as done, by a fault of the output or the notes, or for want of memory.
+    ensures demo { IsDemoAsked (map string_bytes words.now) → IsUnrefused result }
 
     // Without a fault the status is the outcome's, or want of memory.
     ensures complete { let p = predicates (P.number_of functions.now) (P.kinds_of functions.now) P.gives in

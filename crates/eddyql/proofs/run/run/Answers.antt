@@ -1,3 +1,4 @@
+use Rattle.eddyql.proofs.DemoLemmas.{demo_finished}
 use Rattle.eddyql.proofs.EndedLemmas.{complete_of, front_of}
 use Rattle.eddyql.proofs.run.run.Goals as goal
 
@@ -26,3 +27,6 @@ returns-clause-noted g c = λ other. let f = c.run_words.ensures.finished in (f.
 
 pub returns-clause-cut : goal.returns-clause-cut
 returns-clause-cut g c = λ e calm. let f = c.run_words.ensures.finished in (f.given, f.is_given, f.cut e calm)
+
+pub returns-clause-demo : goal.returns-clause-demo
+returns-clause-demo g c = λ d. demo_finished _ _ _ _ c.run_words.result c.run_words.ensures.finished d
