@@ -1,11 +1,11 @@
 //! How statements are run: by so many workers, each under the policy that the words name.
 
-ghost use Rattle.std.specs.Prelude.{◌≡◌, IfOk, map};
+ghost use Rattle.std.specs.Prelude.{◌≡◌, IfOk, length, map};
 ghost use Rattle.std.specs.List.{range_with_len};
 ghost use Rattle.run_answers.specs.Settings.{AreSettings, fresh_of};
 
 use command_line::PolicyName;
-use route_policy::{AnyPolicy, Greedy, Lottery, Pressure, RouteScript};
+use route_policy::{AnyPolicy, Greedy, Lottery, Policy, Pressure, RouteScript};
 use sq_value::{Memory, SqText};
 use std::alloc::Global;
 
@@ -22,6 +22,15 @@ pub struct Settings {
     pub cache: u32,
     pub tally: bool,
     pub shared: bool,
+}
+
+// A policy that is told that rows of each alias have come.
+fn touched_by_all(policy: AnyPolicy) -> AnyPolicy {
+    let mut policy = policy;
+    for alias in 0..12 {
+        policy.touched(alias);
+    }
+    policy
 }
 
 impl Settings {
@@ -56,6 +65,22 @@ impl Settings {
         let mut policies = Vec::new(alloc);
         for worker in 0..self.workers {
             policies.push(self.fresh_policy(worker))?;
+        }
+        Ok(policies)
+    }
+
+    /// The policies of all workers of a shared run, each before its first choice, but told that rows of each alias have
+    /// come. A module has the rows of several aliases there, so that an alias may meet rows before its own first one.
+    ///
+    /// # Errors
+    /// There is no memory for their list.
+    pub(crate) fn shared_policies(&self, alloc: Global) -> Result<Vec<AnyPolicy>, Memory>
+        requires { AreSettings self.now }
+        ensures { IfOk result (λ policies. length policies.items ≡ self.now.workers) }
+    {
+        let mut policies = Vec::new(alloc);
+        for worker in 0..self.workers {
+            policies.push(touched_by_all(self.fresh_policy(worker)))?;
         }
         Ok(policies)
     }
