@@ -23,8 +23,15 @@ use outside::Sink;
 use result_sink::{in_order_by, write_answer_by};
 use sq_expr::{Block, Shape};
 use sq_value::{Memory, Predicates, Tables};
-use std::alloc::Global;
 use std::thread::Threads;
+
+/// A statement, by its block and its shape, if it has one, and the tables that it is run over.
+#[derive(Clone, Copy)]
+pub(crate) struct Statement<'t> {
+    pub block: &'t Block,
+    pub shape: &'t Option<Shape>,
+    pub tables: &'t Tables,
+}
 
 // The matches of a statement without a shape, in the order of its answer.
 fn rows_in_order<P: Predicates, G, R: Threads + Sync>(
@@ -67,45 +74,43 @@ fn write_rows<O: Sink, P: Predicates, G, R: Threads + Sync>(
 }
 
 // What a shape makes of the matches of a statement.
-fn lines_made<P: Predicates>(
-    alloc: Global,
-    functions: &P,
+fn lines_made<P: Predicates, G, R>(
+    engine: &Engine<'_, P, G, R>,
     block: &Block,
     shape: &Shape,
     tables: &Tables,
     combos: &[Combo],
 ) -> Result<Vec<Line>, Memory>
-    requires fits { IsFit (P.kinds_of functions.now) tables.now block.now }
+    requires fits { IsFit (P.kinds_of engine.now.functions.now) tables.now block.now }
     requires shaped { IsShapeFor tables.now block.now shape.now }
     requires found { IsBagOf P.gives block.now tables.now combos.now }
     ensures { IfOk result (λ lines. map (λ (line : TheLine). line.cells) lines.items
         ≡ lines_of block.now tables.now shape.now (bag P.gives block.now tables.now)) }
 {
-    let _functions = functions;
-    report(alloc, block, shape, tables, combos)
+    report(engine.alloc, block, shape, tables, combos)
 }
 
 // Writes the lines that a shape makes of the matches of a statement.
-fn write_lines<O: Sink, P: Predicates>(
-    alloc: Global,
-    functions: &P,
-    block: &Block,
+fn write_lines<O: Sink, P: Predicates, G, R>(
+    engine: &Engine<'_, P, G, R>,
+    statement: Statement<'_>,
     shape: &Shape,
-    tables: &Tables,
     combos: &[Combo],
     out: &mut O,
 ) -> Result<(), Stop>
-    requires fits { IsFit (P.kinds_of functions.now) tables.now block.now }
-    requires shaped { IsShapeFor tables.now block.now shape.now }
-    requires found { IsBagOf P.gives block.now tables.now combos.now }
-    ensures { Put (lines_text shape.now (lines_of block.now tables.now shape.now (bag P.gives block.now tables.now)))
+    requires fits { IsFit (P.kinds_of engine.now.functions.now) statement.tables.now statement.block.now }
+    requires shaped { IsShapeFor statement.tables.now statement.block.now shape.now }
+    requires found { IsBagOf P.gives statement.block.now statement.tables.now combos.now }
+    ensures { Put (lines_text shape.now (lines_of statement.block.now statement.tables.now shape.now
+        (bag P.gives statement.block.now statement.tables.now)))
         (sink_seen out.old (O.written out.old) (O.faults out.old))
         (sink_seen out.new (O.written out.new) (O.faults out.new)) result }
 {
-    let Ok(lines) = lines_made(alloc, functions, block, shape, tables, combos) else {
+    let Statement { block, tables, .. } = statement;
+    let Ok(lines) = lines_made(engine, block, shape, tables, combos) else {
         return Err(Stop::Memory);
     };
-    let written = write_report(alloc, shape, lines.as_slice(), out);
+    let written = write_report(engine.alloc, shape, lines.as_slice(), out);
     stopped(written)
 }
 
@@ -116,26 +121,20 @@ fn write_lines<O: Sink, P: Predicates>(
 /// not all of the text was written. After either, a front of it was.
 pub(crate) fn write_text<O: Sink, P: Predicates, G, R: Threads + Sync>(
     engine: &Engine<'_, P, G, R>,
-    block: &Block,
-    shape: &Option<Shape>,
-    tables: &Tables,
+    statement: Statement<'_>,
     combos: Vec<Combo>,
     out: &mut O,
 ) -> Result<(), Stop>
-    requires runs { IsRunnable (P.kinds_of engine.now.functions.now) tables.now (bound_as block.now shape.now) }
-    requires found { IsBagOf P.gives block.now tables.now combos.items }
-    ensures { Put (item_text P.gives (item_over tables.now (bound_as block.now shape.now)))
+    requires runs { IsRunnable (P.kinds_of engine.now.functions.now) statement.tables.now
+        (bound_as statement.block.now statement.shape.now) }
+    requires found { IsBagOf P.gives statement.block.now statement.tables.now combos.items }
+    ensures { Put (item_text P.gives (item_over statement.tables.now (bound_as statement.block.now statement.shape.now)))
         (sink_seen out.old (O.written out.old) (O.faults out.old))
         (sink_seen out.new (O.written out.new) (O.faults out.new)) result }
 {
-    let alloc = engine.alloc;
-    let functions = engine.functions;
-    match shape {
-        None => write_rows(engine, block, tables, combos, out),
-        Some(shape) => {
-            let combos = combos.as_slice();
-            write_lines(alloc, functions, block, shape, tables, combos, out)
-        }
+    match statement.shape {
+        None => write_rows(engine, statement.block, statement.tables, combos, out),
+        Some(shape) => write_lines(engine, statement, shape, combos.as_slice(), out),
     }
 }
 
