@@ -93,20 +93,21 @@ fn lines_made<P: Predicates, G, R>(
 // Writes the lines that a shape makes of the matches of a statement.
 fn write_lines<O: Sink, P: Predicates, G, R>(
     engine: &Engine<'_, P, G, R>,
-    statement: Statement<'_>,
+    statement: &Statement<'_>,
     shape: &Shape,
     combos: &[Combo],
     out: &mut O,
 ) -> Result<(), Stop>
-    requires fits { IsFit (P.kinds_of engine.now.functions.now) statement.tables.now statement.block.now }
-    requires shaped { IsShapeFor statement.tables.now statement.block.now shape.now }
-    requires found { IsBagOf P.gives statement.block.now statement.tables.now combos.now }
-    ensures { Put (lines_text shape.now (lines_of statement.block.now statement.tables.now shape.now
-        (bag P.gives statement.block.now statement.tables.now)))
+    requires fits { IsFit (P.kinds_of engine.now.functions.now) statement.now.tables.now statement.now.block.now }
+    requires shaped { IsShapeFor statement.now.tables.now statement.now.block.now shape.now }
+    requires found { IsBagOf P.gives statement.now.block.now statement.now.tables.now combos.now }
+    ensures { Put (lines_text shape.now (lines_of statement.now.block.now statement.now.tables.now shape.now
+        (bag P.gives statement.now.block.now statement.now.tables.now)))
         (sink_seen out.old (O.written out.old) (O.faults out.old))
         (sink_seen out.new (O.written out.new) (O.faults out.new)) result }
 {
-    let Statement { block, tables, .. } = statement;
+    let block = statement.block;
+    let tables = statement.tables;
     let Ok(lines) = lines_made(engine, block, shape, tables, combos) else {
         return Err(Stop::Memory);
     };
@@ -121,14 +122,15 @@ fn write_lines<O: Sink, P: Predicates, G, R>(
 /// not all of the text was written. After either, a front of it was.
 pub(crate) fn write_text<O: Sink, P: Predicates, G, R: Threads + Sync>(
     engine: &Engine<'_, P, G, R>,
-    statement: Statement<'_>,
+    statement: &Statement<'_>,
     combos: Vec<Combo>,
     out: &mut O,
 ) -> Result<(), Stop>
-    requires runs { IsRunnable (P.kinds_of engine.now.functions.now) statement.tables.now
-        (bound_as statement.block.now statement.shape.now) }
-    requires found { IsBagOf P.gives statement.block.now statement.tables.now combos.items }
-    ensures { Put (item_text P.gives (item_over statement.tables.now (bound_as statement.block.now statement.shape.now)))
+    requires runs { IsRunnable (P.kinds_of engine.now.functions.now) statement.now.tables.now
+        (bound_as statement.now.block.now statement.now.shape.now) }
+    requires found { IsBagOf P.gives statement.now.block.now statement.now.tables.now combos.items }
+    ensures { Put (item_text P.gives (item_over statement.now.tables.now
+        (bound_as statement.now.block.now statement.now.shape.now)))
         (sink_seen out.old (O.written out.old) (O.faults out.old))
         (sink_seen out.new (O.written out.new) (O.faults out.new)) result }
 {

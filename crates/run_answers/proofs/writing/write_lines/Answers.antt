@@ -9,7 +9,7 @@ use Rattle.run_answers.proofs.writing.write_lines.Goals as goal
 
 pub returns-in_default : goal.returns-in_default
 returns-in_default g c =
-    put_unwritten _ _ (shaped_text-some g.P.Predicates.gives (item_over c.args.statement.tables.now (bound_as c.args.statement.block.now None)) c.args.shape.now)
+    put_unwritten _ _ (shaped_text-some g.P.Predicates.gives (item_over c.args.statement.now.tables.now (bound_as c.args.statement.now.block.now None)) c.args.shape.now)
 
 pub returns : goal.returns
 returns g c =
