@@ -133,6 +133,17 @@ fn more_terms(
     Ok(found)
 }
 
+// One term, in room for one: most sums have no other, and a list that grows begins with room for four.
+fn only(alloc: Global, term: RawTerm) -> Result<List<RawTerm>, Stop>
+    ensures terms { IfOk result (λ terms. terms ≡ term ∷ []) }
+    ensures memory { IfErr result (λ s. s ≡ Stop.Memory) }
+{
+    match Vec::from_array(alloc, [term]) {
+        Ok(terms) => Ok(List::from_vec(terms)),
+        Err(_) => Err(Stop::Memory),
+    }
+}
+
 // A sum whose first term, with its sign, was read at a place.
 #[tactic(auto, unfolding(crate::specs::Reader::sum_from))]
 fn sum_from(
@@ -143,9 +154,7 @@ fn sum_from(
 ) -> Result<Operand, Stop>
     ensures { Reads (spec.sum_from shipped at first tokens.old) result tokens.new }
 {
-    let mut terms = List::new(alloc);
-    terms.push(first)?;
-    let terms = more_terms(alloc, tokens, terms)?;
+    let terms = more_terms(alloc, tokens, only(alloc, first)?)?;
     Ok(Operand::Sum { at, terms })
 }
 
@@ -199,15 +208,6 @@ pub fn operand(alloc: Global, tokens: &mut Cursor<'_>) -> Result<Operand, Stop>
     } else {
         sum(alloc, tokens)
     }
-}
-
-fn only(alloc: Global, term: RawTerm) -> Result<List<RawTerm>, Stop>
-    ensures terms { IfOk result (λ terms. terms ≡ term ∷ []) }
-    ensures memory { IfErr result (λ s. s ≡ Stop.Memory) }
-{
-    let mut terms = List::new(alloc);
-    terms.push(term)?;
-    Ok(terms)
 }
 
 // A number with its sign.
