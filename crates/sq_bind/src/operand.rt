@@ -275,6 +275,16 @@ fn term_of(aliases: &[SeenAlias<'_>], term: &RawTerm) -> Term
     }
 }
 
+/// An empty list with room for so many items. A list that grows has up to twice the room that it needs.
+///
+/// # Errors
+/// `Memory`: there is no memory for them.
+pub fn with_room<T>(alloc: Global, count: usize) -> Result<Items<T>, Memory>
+    ensures { IfOk result (λ items. items ≡ []) }
+{
+    Ok(Items::from_vec(Vec::with_capacity(alloc, count)?))
+}
+
 fn terms_of(
     alloc: Global,
     aliases: &[SeenAlias<'_>],
@@ -282,7 +292,7 @@ fn terms_of(
 ) -> Result<Items<Term>, Memory>
     ensures { IfOk result (λ all. all ≡ map (spec.term_of (map seen aliases.now)) terms.now) }
 {
-    let mut all = Items::new(alloc);
+    let mut all = with_room(alloc, terms.len())?;
     for term in terms {
         all.push(term_of(aliases, term))?;
     }

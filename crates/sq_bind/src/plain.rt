@@ -3,6 +3,7 @@
 ghost use Rattle.std.specs.Prelude.{◌≡◌, map, IfOk};
 ghost use Rattle.sq_bind.specs.Statement as spec;
 
+use crate::operand::with_room;
 use crate::shaped::Shaped;
 use sq_expr::{Block, Cell, ColumnOf, OrderKey, OutCol, ShapeOrder, SortOn};
 use sq_value::{Memory, SqText};
@@ -23,7 +24,7 @@ fn output_column(alloc: Global, cell: &Cell) -> Result<OutCol, Memory>
 fn output_of(alloc: Global, cells: &[Cell]) -> Result<Items<OutCol>, Memory>
     ensures { IfOk result (λ output. output ≡ map spec.output_column cells.now) }
 {
-    let mut output = Items::new(alloc);
+    let mut output = with_room(alloc, cells.len())?;
     for cell in cells {
         output.push(output_column(alloc, cell)?)?;
     }

@@ -13,10 +13,10 @@ ghost use Rattle.sq_bind.specs.Found.{IsFound};
 use crate::fault::{BindFault, sooner};
 use crate::names::put_alias;
 use catalogue::Catalogue;
-use indexmap::IndexSet;
 use sq_parse::{Name, Source};
 use sq_value::Memory;
 use std::alloc::Global;
+use std::collections::BTreeSet;
 
 /// The place of each source's table, where the catalogue has it.
 ///
@@ -82,7 +82,7 @@ fn sources_fault(
     ensures { (scope : Scope) → IsFound scope sources.now tables.now
         → IfOk result (λ fault. fault ≡ first_of (spec.sources_faults scope [] sources.now)) }
 {
-    let mut names = IndexSet::new(alloc);
+    let mut names = BTreeSet::new(alloc);
     let mut fault = None;
     for (index, source) in sources.iter().enumerate() {
         let repeated = put_alias(alloc, &mut names, &source.alias)?;

@@ -7,7 +7,7 @@ ghost use Rattle.sq_bind.specs.Condition as spec;
 ghost use Rattle.sq_bind.specs.Condition.{calling, whole_in};
 ghost use Rattle.sq_bind.specs.Seen.{seen};
 
-use crate::operand::{arg_of, side_of};
+use crate::operand::{arg_of, side_of, with_room};
 use crate::visible::SeenAlias;
 use sq_expr::Cond;
 use sq_parse::{Name, Operand, Tree};
@@ -97,7 +97,7 @@ fn equalities_of(
 ) -> Result<Items<Cond>, Memory>
     ensures { IfOk result (λ all. all ≡ map (spec.equal_to (map seen aliases.now) subject.now) items.now) }
 {
-    let mut all = Items::new(alloc);
+    let mut all = with_room(alloc, items.len())?;
     for item in items {
         all.push(compare_of(alloc, aliases, subject, Cmp::Eq, item)?)?;
     }
@@ -208,7 +208,7 @@ fn wholes_of<F: Predicates>(
     ensures { let calls = calling (F.number_of functions.now) (F.kinds_of functions.now) in
         IfOk result (λ all. all ≡ map (whole_in calls (map seen aliases.now)) parts.now) }
 {
-    let mut all = Items::new(alloc);
+    let mut all = with_room(alloc, parts.len())?;
     for part in parts {
         all.push(whole_of(alloc, functions, aliases, part)?)?;
     }

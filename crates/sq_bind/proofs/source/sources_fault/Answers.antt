@@ -20,7 +20,7 @@ loop-index-preserved c =
     let put = c.in_ok-repeated.ensures.put front x refl held in
     let longer : front ++ x ∷ [] ≡ take (i + 1) sources = ap (λ (s : Source). front ++ s ∷ []) is ∙ sym (take_more sources i x within) in
     record {
-      names = subst (λ (ss : List Source). HoldsNames c.put_alias.new.names.keys ss) longer put;
+      names = subst (λ (ss : List Source). HoldsNames c.put_alias.new.names ss) longer put;
       so_far = λ scope found. (
           let table = found_at scope sources c.args.tables.now i x _ found within ∙ ap (λ (s : Source). scope.table s.table.text) (sym is) in
           let here = c.source_fault.ensures scope front table (c.in_ok-repeated.ensures.told front held)
