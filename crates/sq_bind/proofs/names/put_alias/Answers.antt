@@ -1,4 +1,4 @@
-use Rattle.std.proofs.Common.{◌≡◌, Bool, true, false, not, List, ◌++◌, [], ◌∷◌, ℕ, ap, sym, refl, ◌∙◌}
+use Rattle.std.proofs.Common.{◌≡◌, Bool, true, false, not, ap, sym, refl, ◌∙◌}
 use Rattle.std.specs.Prelude.{string_bytes}
 use Rattle.std.specs.BTreeSet.{contains_text}
 use Rattle.std.proofs.lemmas.Map.Text.{btree_set_updates_text}
