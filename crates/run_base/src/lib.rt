@@ -3,7 +3,9 @@
 #![tactic(auto)]
 
 mod bound;
+mod laws;
 mod outputs;
 
 pub use bound::Bound;
+pub use laws::exchange_law;
 pub use outputs::Outputs;

@@ -1,6 +1,6 @@
 -- The line that says on the notes why a run was refused.
-use Rattle.std.specs.Prelude.{◌≡◌, ◌≢◌, ◌⊎◌, ℕ, ◌+◌, List, [], ◌∷◌, ◌++◌, map, codes, slice_index_or}
-use Rattle.std.specs.Fmt.{decimal}
+use Rattle.std.specs.Prelude.{◌≡◌, ◌≢◌, ◌⊎◌, ℕ, ℤ, ◌+◌, List, [], ◌∷◌, ◌++◌, map, codes, slice_index_or}
+use Rattle.std.specs.Fmt.{decimal, signed_decimal}
 use Rattle.outside.specs.Faults.{RoseOrFull}
 use Rattle.outside.specs.Told.{Adds, AddsFront}
 use Rattle.sq_parse.specs.Fault.{fault_place}
@@ -11,7 +11,9 @@ use Rattle.table_csv.specs.declared.fault.TableFault.TheVariants as table
 use Rattle.sq_bind.specs.Fault.{place_of}
 use Rattle.sq_bind.specs.declared.fault.BindFault.{BindFault}
 use Rattle.sq_bind.specs.declared.fault.BindFault.TheVariants as bind
+use Rattle.command_line.specs.declared.command.RemoteWord.{RemoteWord}
 use Rattle.command_line.specs.declared.command.TableWord.{TableWord}
+use Rattle.remote_lookup.specs.declared.remote.RemoteKey.{RemoteKey}
 use Rattle.run_base.specs.Seen.{Sink}
 use Rattle.run_plan.specs.declared.status.Status.{Status}
 use Rattle.run_plan.specs.declared.status.Status.TheVariants as status
@@ -20,18 +22,36 @@ use Rattle.run_plan.specs.declared.status.FileOf.TheVariants as file
 use Rattle.run_plan.specs.declared.status.LimitOf.{LimitOf}
 use Rattle.run_plan.specs.declared.status.LimitOf.TheVariants as limit
 
--- the names of the tables, as they were given
-abbrev pub names_of : List TableWord → List (List ℕ)
-names_of tables = map (λ (t : TableWord). t.name) tables
+-- the names of tables and of remotes
+pub record Names : Type 0 where
+  pub tables : List (List ℕ)
+  pub remotes : List (List ℕ)
 
--- the name of a table, by its number, among the names of all
+-- the names of the words, as they were given
+abbrev pub names_of : List TableWord → List RemoteWord → Names
+names_of tables remotes =
+    record { tables = map (λ (t : TableWord). t.name) tables; remotes = map (λ (r : RemoteWord). r.name) remotes }
+
+-- the name with a number among all names
 abbrev pub name_at : List (List ℕ) → ℕ → List ℕ
 name_at names number = slice_index_or names number []
 
+-- a remote, and a key of one, as a note names it
+abbrev pub remote_text : Names → ℕ → List ℕ
+remote_text names remote = codes "remote " ++ name_at names.remotes remote
+
+abbrev pub keyed_text : List ℕ → ℤ → List ℕ
+keyed_text name key = codes "remote " ++ name ++ codes " key " ++ signed_decimal key
+
+abbrev pub key_text : Names → RemoteKey → List ℕ
+key_text names at = keyed_text (name_at names.remotes at.remote) at.key
+
 -- a file as a note names it
-abbrev pub file_text : List (List ℕ) → FileOf → List ℕ
+abbrev pub file_text : Names → FileOf → List ℕ
 file_text names file.Script = codes "script"
-file_text names (file.Table number) = codes "table " ++ name_at names number
+file_text names (file.Table number) = codes "table " ++ name_at names.tables number
+file_text names (file.Heading remote) = codes "heading of " ++ name_at names.remotes remote
+file_text names (file.Key at) = key_text names at
 
 -- what is wrong with a script
 abbrev pub parse_text : ParseFault → List ℕ
@@ -85,20 +105,25 @@ table_note table.TooManyRows = codes "rows"
 table_note table.Memory = codes "memory"
 
 -- what passes a limit
-abbrev pub limit_note : List (List ℕ) → LimitOf → List ℕ
+abbrev pub limit_note : Names → LimitOf → List ℕ
 limit_note names (limit.File f) = codes "file of " ++ file_text names f
-limit_note names (limit.Table number f) = table_note f ++ codes " of table " ++ name_at names number
+limit_note names (limit.Table number f) = table_note f ++ codes " of table " ++ name_at names.tables number
 limit_note names (limit.Parse f) = at_byte (parse_text f) (fault_place f)
 limit_note names (limit.Bind statement f) = at_byte (bind_text f) (place_of f)
+limit_note names (limit.Keys remote) = codes "keys of " ++ remote_text names remote
+limit_note names (limit.Rows remote) = codes "rows of " ++ remote_text names remote
 
--- what a status says of a run over tables of these names
-abbrev pub note : List (List ℕ) → Status → List ℕ
+-- what a status says of a run over tables and remotes of these names
+abbrev pub note : Names → Status → List ℕ
 note names status.Done = codes "done"
 note names status.Usage =
     codes "usage: eddyql [OPTIONS] SCRIPT NAME=FILE.. or eddyql [OPTIONS] --demo ROWS"
 note names (status.Script f) = codes "script: " ++ at_byte (parse_text f) (fault_place f)
 note names (status.Bind statement f) = codes "statement " ++ decimal statement ++ codes ": " ++ bind_note f
-note names (status.BadTable number f) = codes "table " ++ name_at names number ++ codes ": " ++ table_note f
+note names (status.BadTable number f) =
+    codes "table " ++ name_at names.tables number ++ codes ": " ++ table_note f
+note names (status.BadHeading remote) = remote_text names remote ++ codes ": bad heading"
+note names (status.BadKey at why) = key_text names at ++ codes ": bad file"
 note names (status.NoColumn access) = codes "access " ++ decimal access ++ codes ": no such column"
 note names (status.NotFound f) = codes "not found: " ++ file_text names f
 note names (status.Read f) = codes "read fault: " ++ file_text names f
@@ -107,7 +132,7 @@ note names (status.Limit l) = codes "limit: " ++ limit_note names l
 note names status.Memory = codes "out of memory"
 
 -- the line of that
-unfoldable pub line_of : List (List ℕ) → Status → List ℕ
+unfoldable pub line_of : Names → Status → List ℕ
 line_of names s = note names s ++ 10 ∷ []
 
 -- a sink has a line more, or a front of it where its count rose
@@ -116,9 +141,9 @@ IsNoted before now line =
     Adds before.written now.written line
     ⊎ (RoseOrFull before.faults now.faults × AddsFront before.written now.written line)
 
--- what a run over tables of these names puts to the notes where it would end by a status: nothing where it is done, and
--- else the line of the status that it ends by, which is that one or want of memory
-pub record NotesOf {S : Type 0} (names : List (List ℕ)) (before now : Sink S) (s ended : Status) : Type 0 where
+-- what a run over tables and remotes of these names puts to the notes where it would end by a status: nothing where it
+-- is done, and else the line of the status that it ends by, which is that one or want of memory
+pub record NotesOf {S : Type 0} (names : Names) (before now : Sink S) (s ended : Status) : Type 0 where
   pub either : (ended ≡ s) ⊎ (ended ≡ status.Memory)
   pub silent : ended ≡ status.Done → now ≡ before
   pub noted : ended ≢ status.Done → IsNoted before now (line_of names ended)

@@ -1,6 +1,6 @@
 //! The line that says on the notes why a run was refused.
 
-ghost use Rattle.std.specs.Prelude.{◌≡◌, ◌⊎◌, ◌++◌, [], IfOk, codes};
+ghost use Rattle.std.specs.Prelude.{◌≡◌, ◌⊎◌, ◌++◌, [], IfOk, codes, map};
 ghost use Rattle.std.specs.String.{string_bytes};
 ghost use Rattle.sq_bind.specs.Fault.{place_of};
 ghost use Rattle.sq_parse.specs.Fault.{fault_place};
@@ -8,8 +8,9 @@ ghost use Rattle.run_base.specs.Seen.{sink_seen};
 ghost use Rattle.run_notes.specs.Note as spec;
 ghost use Rattle.run_notes.specs.Note.{IsNoted, NotesOf, line_of, names_of};
 
-use command_line::TableWord;
+use command_line::{RemoteWord, TableWord};
 use outside::Sink;
+use remote_lookup::RemoteKey;
 use run_plan::{FileOf, LimitOf, Status};
 use sq_bind::BindFault;
 use sq_parse::ParseFault;
@@ -18,7 +19,7 @@ use table_csv::TableFault;
 
 // The name of the table with this number.
 fn name_at(tables: &[TableWord], number: u32) -> &str
-    ensures { result.now ≡ spec.name_at (names_of tables.now) number }
+    ensures { result.now ≡ spec.name_at (map (λ t. t.name) tables.now) number }
 {
     match tables.get(number as usize) {
         Some(table) => table.name.as_str(),
@@ -26,14 +27,69 @@ fn name_at(tables: &[TableWord], number: u32) -> &str
     }
 }
 
+// The name of the remote with this number.
+fn remote_at(remotes: &[RemoteWord], number: u32) -> &str
+    ensures { result.now ≡ spec.name_at (map (λ r. r.name) remotes.now) number }
+{
+    match remotes.get(number as usize) {
+        Some(remote) => remote.name.as_str(),
+        None => "",
+    }
+}
+
+// A remote, between some words.
+fn remote_note(
+    alloc: Global,
+    remotes: &[RemoteWord],
+    front: &str,
+    number: u32,
+    back: &str,
+) -> Result<String, AllocError>
+    ensures { IfOk result (λ text. string_bytes text
+        ≡ front.now ++ spec.remote_text (names_of [] remotes.now) number ++ back.now) }
+{
+    let name = remote_at(remotes, number);
+    format!(in alloc; "{front}remote {name}{back}")
+}
+
+// A key of the remote of this name, between some words.
+fn keyed_note(
+    alloc: Global,
+    front: &str,
+    name: &str,
+    key: i64,
+    back: &str,
+) -> Result<String, AllocError>
+    ensures { IfOk result (λ text. string_bytes text ≡ front.now ++ spec.keyed_text name.now key ++ back.now) }
+{
+    format!(in alloc; "{front}remote {name} key {key}{back}")
+}
+
+// A key of a remote, between some words.
+fn key_note(
+    alloc: Global,
+    remotes: &[RemoteWord],
+    front: &str,
+    at: RemoteKey,
+    back: &str,
+) -> Result<String, AllocError>
+    ensures { IfOk result (λ text. string_bytes text
+        ≡ front.now ++ spec.key_text (names_of [] remotes.now) at ++ back.now) }
+{
+    let name = remote_at(remotes, at.remote);
+    keyed_note(alloc, front, name, at.key, back)
+}
+
 // A file, behind some words.
 fn file_note(
     alloc: Global,
     tables: &[TableWord],
+    remotes: &[RemoteWord],
     front: &str,
     file: FileOf,
 ) -> Result<String, AllocError>
-    ensures { IfOk result (λ text. string_bytes text ≡ front.now ++ spec.file_text (names_of tables.now) file) }
+    ensures { IfOk result (λ text. string_bytes text
+        ≡ front.now ++ spec.file_text (names_of tables.now remotes.now) file) }
 {
     match file {
         FileOf::Script => format!(in alloc; "{front}script"),
@@ -41,6 +97,11 @@ fn file_note(
             let name = name_at(tables, number);
             format!(in alloc; "{front}table {name}")
         }
+        FileOf::Heading(number) => {
+            let name = remote_at(remotes, number);
+            format!(in alloc; "{front}heading of {name}")
+        }
+        FileOf::Key(at) => key_note(alloc, remotes, front, at, ""),
     }
 }
 
@@ -161,7 +222,7 @@ fn table_note(alloc: Global, fault: TableFault) -> Result<String, AllocError>
 }
 
 fn statement_note(alloc: Global, statement: u32, fault: BindFault) -> Result<String, AllocError>
-    ensures { IfOk result (λ text. string_bytes text ≡ spec.note [] (Status.Bind statement fault)) }
+    ensures { IfOk result (λ text. string_bytes text ≡ spec.note (names_of [] []) (Status.Bind statement fault)) }
 {
     let text = bind_note(alloc, fault)?;
     format!(in alloc; "statement {statement}: {text}")
@@ -174,7 +235,7 @@ fn bad_table_note(
     fault: TableFault,
 ) -> Result<String, AllocError>
     ensures { IfOk result (λ text. string_bytes text
-        ≡ spec.note (names_of tables.now) (Status.BadTable table fault)) }
+        ≡ spec.note (names_of tables.now []) (Status.BadTable table fault)) }
 {
     let name = name_at(tables, table);
     let text = table_note(alloc, fault)?;
@@ -188,7 +249,7 @@ fn table_limit_note(
     fault: TableFault,
 ) -> Result<String, AllocError>
     ensures { IfOk result (λ text. string_bytes text
-        ≡ codes "limit: " ++ spec.limit_note (names_of tables.now) (LimitOf.Table table fault)) }
+        ≡ codes "limit: " ++ spec.limit_note (names_of tables.now []) (LimitOf.Table table fault)) }
 {
     let name = name_at(tables, table);
     let text = table_note(alloc, fault)?;
@@ -196,11 +257,17 @@ fn table_limit_note(
 }
 
 // What passed a limit.
-fn limit_note(alloc: Global, tables: &[TableWord], of: LimitOf) -> Result<String, AllocError>
-    ensures { IfOk result (λ text. string_bytes text ≡ spec.note (names_of tables.now) (Status.Limit of)) }
+fn limit_note(
+    alloc: Global,
+    tables: &[TableWord],
+    remotes: &[RemoteWord],
+    of: LimitOf,
+) -> Result<String, AllocError>
+    ensures { IfOk result (λ text. string_bytes text
+        ≡ spec.note (names_of tables.now remotes.now) (Status.Limit of)) }
 {
     match of {
-        LimitOf::File { file } => file_note(alloc, tables, "limit: file of ", file),
+        LimitOf::File { file } => file_note(alloc, tables, remotes, "limit: file of ", file),
         LimitOf::Table { table, fault } => table_limit_note(alloc, tables, table, fault),
         LimitOf::Parse { fault } => at_byte(
             alloc,
@@ -212,12 +279,19 @@ fn limit_note(alloc: Global, tables: &[TableWord], of: LimitOf) -> Result<String
             statement: _,
             fault,
         } => at_byte(alloc, "limit: ", bind_text(fault), bind_place(fault)),
+        LimitOf::Keys { remote } => remote_note(alloc, remotes, "limit: keys of ", remote, ""),
+        LimitOf::Rows { remote } => remote_note(alloc, remotes, "limit: rows of ", remote, ""),
     }
 }
 
-// What a status says of a run over these tables.
-fn note_of(alloc: Global, tables: &[TableWord], status: Status) -> Result<String, AllocError>
-    ensures { IfOk result (λ text. string_bytes text ≡ spec.note (names_of tables.now) status) }
+// What a status says of a run over these tables and remotes.
+fn note_of(
+    alloc: Global,
+    tables: &[TableWord],
+    remotes: &[RemoteWord],
+    status: Status,
+) -> Result<String, AllocError>
+    ensures { IfOk result (λ text. string_bytes text ≡ spec.note (names_of tables.now remotes.now) status) }
 {
     match status {
         Status::Done => format!(in alloc; "done"),
@@ -234,20 +308,27 @@ fn note_of(alloc: Global, tables: &[TableWord], status: Status) -> Result<String
         ),
         Status::Bind { statement, fault } => statement_note(alloc, statement, fault),
         Status::BadTable { table, fault } => bad_table_note(alloc, tables, table, fault),
+        Status::BadHeading { remote } => remote_note(alloc, remotes, "", remote, ": bad heading"),
+        Status::BadKey { at, why: _ } => key_note(alloc, remotes, "", at, ": bad file"),
         Status::NoColumn { access } => format!(in alloc; "access {access}: no such column"),
-        Status::NotFound { file } => file_note(alloc, tables, "not found: ", file),
-        Status::Read { file } => file_note(alloc, tables, "read fault: ", file),
+        Status::NotFound { file } => file_note(alloc, tables, remotes, "not found: ", file),
+        Status::Read { file } => file_note(alloc, tables, remotes, "read fault: ", file),
         Status::Write => format!(in alloc; "write fault"),
-        Status::Limit { of } => limit_note(alloc, tables, of),
+        Status::Limit { of } => limit_note(alloc, tables, remotes, of),
         Status::Memory => format!(in alloc; "out of memory"),
     }
 }
 
-// The line that says why a run over these tables was refused.
-fn line_of(alloc: Global, tables: &[TableWord], status: Status) -> Result<String, AllocError>
-    ensures { IfOk result (λ line. string_bytes line ≡ line_of (names_of tables.now) status) }
+// The line that says why a run over these tables and remotes was refused.
+fn line_of(
+    alloc: Global,
+    tables: &[TableWord],
+    remotes: &[RemoteWord],
+    status: Status,
+) -> Result<String, AllocError>
+    ensures { IfOk result (λ line. string_bytes line ≡ line_of (names_of tables.now remotes.now) status) }
 {
-    let text = note_of(alloc, tables, status)?;
+    let text = note_of(alloc, tables, remotes, status)?;
     format!(in alloc; "{text}\n")
 }
 
@@ -263,14 +344,16 @@ fn put_line<N: Sink>(line: &[u8], notes: &mut N)
 fn put_refusal<N: Sink>(
     alloc: Global,
     tables: &[TableWord],
+    remotes: &[RemoteWord],
     status: Status,
     notes: &mut N,
 ) -> Status
     ensures either { (result ≡ status) ⊎ (result ≡ Status.Memory) }
     ensures noted { IsNoted (sink_seen notes.old (N.written notes.old) (N.faults notes.old))
-        (sink_seen notes.new (N.written notes.new) (N.faults notes.new)) (line_of (names_of tables.now) result) }
+        (sink_seen notes.new (N.written notes.new) (N.faults notes.new))
+        (line_of (names_of tables.now remotes.now) result) }
 {
-    match line_of(alloc, tables, status) {
+    match line_of(alloc, tables, remotes, status) {
         Ok(line) => {
             put_line(line.as_bytes(), notes);
             status
@@ -282,21 +365,22 @@ fn put_refusal<N: Sink>(
     }
 }
 
-/// Puts the line that says why a run over these tables was refused, and nothing where it is done.
+/// Puts the line that says why a run over these tables and remotes was refused, and nothing where it is done.
 /// Gives the status: where there is no memory for the line, that is want of memory.
 pub fn put_note<N: Sink>(
     alloc: Global,
     tables: &[TableWord],
+    remotes: &[RemoteWord],
     status: Status,
     notes: &mut N,
 ) -> Status
-    ensures { NotesOf (names_of tables.now) (sink_seen notes.old (N.written notes.old) (N.faults notes.old))
+    ensures { NotesOf (names_of tables.now remotes.now) (sink_seen notes.old (N.written notes.old) (N.faults notes.old))
         (sink_seen notes.new (N.written notes.new) (N.faults notes.new)) status result }
 {
     if status == Status::Done {
         return status;
     }
-    put_refusal(alloc, tables, status, notes)
+    put_refusal(alloc, tables, remotes, status, notes)
 }
 
 #[cfg(test)]

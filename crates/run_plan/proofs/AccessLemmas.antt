@@ -7,8 +7,9 @@ use Rattle.std.proofs.lemmas.Bool.Decides.{nat_tests}
 use Rattle.std.proofs.lemmas.Bool.{ltb-true, eqb-true, eq-eqb, ne_eqb, false≢true}
 use Rattle.std.proofs.lemmas.Option.{slice_get-get_or, slice_get_within, get_or_from_slice_get}
 use Rattle.std.proofs.lemmas.List.{length-map, map-append, take_all, take_more, drop_more, take-append-drop, length-take-le}
-use Rattle.std.proofs.lemmas.List.Elements.{All-nil, All-cons, All-push, All-same, All-head, All-tail}
+use Rattle.std.proofs.lemmas.List.Elements.{All-nil, All-cons, All-push, All-same, All-head, All-tail, All-get_or}
 use Rattle.std.proofs.lemmas.List.FromFn.{get_or-map-range_with_len, length-range_with_len}
+use Rattle.std.proofs.lemmas.List.Quantifiers.{position-Some}
 use Rattle.std.proofs.lemmas.Map.Steps.{length-le_from_distinct_below}
 use Rattle.sq_value.specs.Relation.{Relation}
 use Rattle.sq_value.specs.declared.table.Column.{Column}
@@ -16,13 +17,18 @@ use Rattle.sq_value.specs.declared.value.ColType.TheVariants as kind
 use Rattle.sq_expr.specs.Fits.{FitsAlias, column_kind}
 use Rattle.sq_expr.specs.declared.block.Access.{Access}
 use Rattle.sq_bind.specs.Given.{AreAccesses}
-use Rattle.sq_bind.specs.Statement.{columns_at}
+use Rattle.sq_bind.specs.Statement.{columns_at, scanned}
 use Rattle.command_line.specs.Accesses.{tables_differ}
 use Rattle.command_line.specs.Within.{IsAccess, IsQuery}
 use Rattle.command_line.specs.declared.command.AccessWord.{AccessWord}
 use Rattle.command_line.specs.declared.command.Query.{Query as QueryWords}
-use Rattle.run_plan.specs.Accesses.{column_asked, first_lacking, access_by, access_to, accesses_to, unless_lacking, accesses_read}
+use Rattle.remote_lookup.specs.Filled.{remote_of}
+use Rattle.remote_lookup.specs.Loaded.{IsRemote}
+use Rattle.remote_lookup.specs.declared.remote.Remote.{Remote}
+use Rattle.run_plan.specs.Accesses.{column_asked, first_lacking, access_by, access_to, access_over, reach_to, accesses_to, unless_lacking, accesses_read}
+use Rattle.run_plan.specs.Open.{AreReached}
 use Rattle.run_plan.specs.Doing.{Refuses}
+use Rattle.run_plan.specs.Naming.{counts}
 use Rattle.run_plan.specs.Steps.{ComesTo}
 use Rattle.run_plan.specs.declared.status.Status.TheVariants as status
 
@@ -146,26 +152,78 @@ fits_found tables table h (a ∷ more) all =
     }
     by rest false e = rest
 
-length-accesses : (tables : List Relation) (asked : List AccessWord) → length (accesses_to tables asked) ≡ length tables
-length-accesses tables asked =
-    length-map (range_with_len 0 (length tables)) (access_to tables asked) ∙ length-range_with_len 0 (length tables)
+-- a remote's look-up fits its table
+fits_remote : (tables : List Relation) (table column : ℕ) → table < length tables → column_kind tables table column ≡ Some kind.Integer
+    → FitsAlias tables (record { table = table; access = record { scan = false; look_up = Some column } })
+fits_remote tables table column h e = record { table = h; reached = inr refl; look_up = ap is_some e }
 
-pub accesses_fit : (tables : List Relation) (asked : List AccessWord) → All (Has tables) asked → AreAccesses tables (accesses_to tables asked)
-accesses_fit tables asked all = record { one_each = length-accesses tables asked; fits = fits }
+-- the remote that is found has the table
+remote_found : (tables : List Relation) (remotes : List Remote) (table i : ℕ) (r : Remote) → All (IsRemote tables) remotes → remote_of remotes table ≡ Some i
+    → slice_get remotes i ≡ Some r → (r.table ≡ table) × IsRemote tables r
+remote_found tables remotes table i r each e f =
+    let found = position-Some (λ (s : Remote). eqb s.table table) remotes i r e in
+    let is : get_or remotes i r ≡ r = get_or_from_slice_get remotes i r r f in (
+      ap (λ (s : Remote). s.table) (sym is) ∙ eqb-true (get_or remotes i r).table table found.1,
+      subst (IsRemote tables) is (All-get_or (IsRemote tables) remotes i r found.0 each),
+    )
+
+fits_reached : (tables : List Relation) (asked : List AccessWord) (remotes : List Remote) (table : ℕ) → table < length tables → All (Has tables) asked
+    → All (IsRemote tables) remotes → FitsAlias tables (record { table = table; access = reach_to tables asked remotes table })
+fits_reached tables asked remotes table h all each = by (remote_of remotes table) refl
   where
-    fits : (table : ℕ) (access : Access) → slice_get (accesses_to tables asked) table ≡ Some access
-        → FitsAlias tables (record { table = table; access = access })
-    fits table access e =
-        let within : table < length tables = omega (arith, slice_get_within (accesses_to tables asked) table access e, length-accesses tables asked) in
-        let at : get_or (accesses_to tables asked) table access ≡ access_to tables asked table =
-        get_or-map-range_with_len (access_to tables asked) 0 (length tables) table table access within (omega arith) in
-        let is : get_or (accesses_to tables asked) table access ≡ access = get_or_from_slice_get (accesses_to tables asked) table access access e in
-        subst (λ (x : Access). FitsAlias tables (record { table = table; access = x })) (sym at ∙ is) (fits_found tables table within asked all)
+    other : FitsAlias tables (record { table = table; access = access_to tables asked table })
+    other = fits_found tables table h asked all
 
-pub accesses_ok : (tables : List Relation) (asked : List AccessWord) → first_lacking tables 1 asked ≡ None
-    → ComesTo (accesses_read tables asked) (Ok (accesses_to tables asked))
+    at : (i : ℕ) → remote_of remotes table ≡ Some i → (o : Option Remote) → slice_get remotes i ≡ o
+        → FitsAlias tables (record { table = table; access = access_over o (access_to tables asked table) })
+    at i e None f = other
+    at i e (Some r) f =
+        let found = remote_found tables remotes table i r each e f in
+        fits_remote tables table r.column h (subst (λ (t : ℕ). column_kind tables t r.column ≡ Some kind.Integer) found.0 found.1.integer)
+
+    by : (o : Option ℕ) → remote_of remotes table ≡ o
+        → FitsAlias tables (record { table = table; access = access_over (option_and_then (slice_get remotes) o) (access_to tables asked table) })
+    by None e = other
+    by (Some i) e = at i e (slice_get remotes i) refl
+
+length-accesses : (tables : List Relation) (asked : List AccessWord) (remotes : List Remote) → length (accesses_to tables asked remotes) ≡ length tables
+length-accesses tables asked remotes =
+    length-map (range_with_len 0 (length tables)) (reach_to tables asked remotes) ∙ length-range_with_len 0 (length tables)
+
+-- the access of a table
+access_at : (tables : List Relation) (asked : List AccessWord) (remotes : List Remote) (table : ℕ) (d : Access) → table < length tables
+    → get_or (accesses_to tables asked remotes) table d ≡ reach_to tables asked remotes table
+access_at tables asked remotes table d h =
+    get_or-map-range_with_len (reach_to tables asked remotes) 0 (length tables) table table d h (omega arith)
+
+pub accesses_fit : (tables : List Relation) (asked : List AccessWord) (remotes : List Remote) → All (Has tables) asked → All (IsRemote tables) remotes
+    → AreAccesses tables (accesses_to tables asked remotes)
+accesses_fit tables asked remotes all each = record { one_each = length-accesses tables asked remotes; fits = fits }
+  where
+    accesses : List Access
+    accesses = accesses_to tables asked remotes
+
+    fits : (table : ℕ) (access : Access) → slice_get accesses table ≡ Some access → FitsAlias tables (record { table = table; access = access })
+    fits table access e =
+        let within : table < length tables = omega (arith, slice_get_within accesses table access e, length-accesses tables asked remotes) in
+        let is : get_or accesses table access ≡ access = get_or_from_slice_get accesses table access access e in
+        subst (λ (x : Access). FitsAlias tables (record { table = table; access = x })) (sym (access_at tables asked remotes table access within) ∙ is)
+        (fits_reached tables asked remotes table within all each)
+
+pub accesses_reach : (tables : List Relation) (asked : List AccessWord) (remotes : List Remote) → All (IsRemote tables) remotes
+    → AreReached remotes (accesses_to tables asked remotes)
+accesses_reach tables asked remotes each table i r e f =
+    let found = remote_found tables remotes table i r each e f in
+    let within : table < length tables =
+    subst (λ (t : ℕ). t < length tables) found.0 (slice_get_within tables r.table found.1.table found.1.is) in
+    access_at tables asked remotes table scanned within
+    ∙ ap (λ (o : Option ℕ). access_over (option_and_then (slice_get remotes) o) (access_to tables asked table)) e
+    ∙ ap (λ (o : Option Remote). access_over o (access_to tables asked table)) f
+
+pub accesses_ok : (tables : List Relation) (asked : List AccessWord) (remotes : List Remote) → first_lacking tables 1 asked ≡ None
+    → ComesTo (accesses_read tables asked remotes) (Ok (accesses_to tables asked remotes))
 unfolding accesses_read
-accesses_ok tables asked e = sym (ap (λ (o : Option ℕ). unless_lacking o (accesses_to tables asked)) e)
+accesses_ok tables asked remotes e = sym (ap (λ (o : Option ℕ). unless_lacking o (accesses_to tables asked remotes)) e)
 
 -- an access that lacks its column is one of those that were asked for
 lacking_within : (tables : List Relation) (number : ℕ) (asked : List AccessWord) (access : ℕ) → first_lacking tables number asked ≡ Some access
@@ -180,16 +238,16 @@ lacking_within tables number (a ∷ more) access e =
     by rest true f = let k = rest f in (omega (arith, k.0), omega (arith, k.1))
     by rest false f = let same : number ≡ access = cc in (omega (arith, same), omega (arith, same))
 
-pub accesses_refused : (tables : List Relation) (asked : List AccessWord) (access : ℕ) → first_lacking tables 1 asked ≡ Some access
-    → Refuses 0 (length asked) (ComesTo (accesses_read tables asked) (Err (status.NoColumn access))) (status.NoColumn access)
+pub accesses_refused : (tables : List Relation) (asked : List AccessWord) (remotes : List Remote) (access : ℕ) → first_lacking tables 1 asked ≡ Some access
+    → Refuses (counts 0 (length asked) 0) (ComesTo (accesses_read tables asked remotes) (Err (status.NoColumn access))) (status.NoColumn access)
 unfolding accesses_read
-accesses_refused tables asked access e = record {
-  may = sym (ap (λ (o : Option ℕ). unless_lacking o (accesses_to tables asked)) e);
+accesses_refused tables asked remotes access e = record {
+  may = sym (ap (λ (o : Option ℕ). unless_lacking o (accesses_to tables asked remotes)) e);
   early = record {
     between = tt;
     founded = tt;
     placed = tt;
-    named = let within = lacking_within tables 1 asked access e in record { file = tt; access = (within.0, omega (arith, within.1)) };
+    named = let within = lacking_within tables 1 asked access e in record { file = tt; access = (within.0, omega (arith, within.1)); remote = tt };
   };
 }
 
@@ -230,13 +288,13 @@ pub access_found : (tables : List Relation) (asked : List AccessWord) (table : �
 access_found tables asked table a look e f =
     ap (λ (o : Option ℕ). record { scan = a.scan; look_up = o }) f ∙ sym (ap (access_by tables) e)
 
-pub accesses_next : (tables : List Relation) (asked : List AccessWord) (table : ℕ) (old new : List Access) (x : Access)
-    → old ≡ map (access_to tables asked) (range_with_len 0 table) → new ≡ old ++ x ∷ [] → x ≡ access_to tables asked table
-    → new ≡ map (access_to tables asked) (range_with_len 0 (table + 1))
-accesses_next tables asked table old new x e f g =
-    f ∙ ap (λ (xs : List Access). xs ++ x ∷ []) e ∙ ap (λ (y : Access). map (access_to tables asked) (range_with_len 0 table) ++ y ∷ []) g
-    ∙ sym (map-append (access_to tables asked) (range_with_len 0 table) (table ∷ []))
-    ∙ ap (map (access_to tables asked)) (sym (range_next table))
+-- one access more, where `to` says how a table is reached
+pub accesses_next : (to : ℕ → Access) (table : ℕ) (old new : List Access) (x : Access)
+    → old ≡ map to (range_with_len 0 table) → new ≡ old ++ x ∷ [] → x ≡ to table → new ≡ map to (range_with_len 0 (table + 1))
+accesses_next to table old new x e f g =
+    f ∙ ap (λ (xs : List Access). xs ++ x ∷ []) e ∙ ap (λ (y : Access). map to (range_with_len 0 table) ++ y ∷ []) g
+    ∙ sym (map-append to (range_with_len 0 table) (table ∷ []))
+    ∙ ap (map to) (sym (range_next table))
 
 pub have_next : (tables : List Relation) (asked : List AccessWord) (i : ℕ) (a : AccessWord) (o : Option ℕ) (column : ℕ) → i < length asked → a ≡ get_or asked i a
     → All (Has tables) (take i asked) → o ≡ column_asked tables a → o ≡ Some column → All (Has tables) (take (i + 1) asked)

@@ -15,6 +15,7 @@ use Rattle.sq_bind.specs.Statement.{Scope}
 use Rattle.sq_bind.specs.declared.fault.BindFault.{BindFault}
 use Rattle.sq_bind.specs.declared.fault.BindFault.TheVariants as bind
 use Rattle.run_plan.specs.Doing.{Refuses, IsParsedScript}
+use Rattle.run_plan.specs.Naming.{zero_counts}
 use Rattle.run_plan.specs.Faults.{Sort, Plain, PastLimit, NoMemory, parse_sort, bind_sort, by_sort, script_status, bind_status}
 use Rattle.run_plan.specs.Prepared.{IsSpelled, IsBoundTo, AreBoundTo}
 use Rattle.run_plan.specs.Steps.{Behind, AndThen, ComesTo}
@@ -31,40 +32,40 @@ apart_limit e = cc
 
 -- the refusal of a script's fault
 pub refuses_script : (text : List ℕ) (fault : ParseFault) → (fault ≢ parse.Memory → IsScriptFault text fault)
-    → Refuses 0 0 (IsSpelled text (Err (script_status fault))) (script_status fault)
+    → Refuses zero_counts (IsSpelled text (Err (script_status fault))) (script_status fault)
 refuses_script text fault h = by (parse_sort fault) refl
   where
     due : parse_sort fault ≢ NoMemory → IsSpelled text (Err (script_status fault))
     due f = (Err fault, h (λ (e : fault ≡ parse.Memory). f (ap parse_sort e)), refl)
 
-    by : (s : Sort) → parse_sort fault ≡ s → Refuses 0 0 (IsSpelled text (Err (script_status fault))) (by_sort s (status.Script fault) (status.Limit (limit.Parse fault)))
+    by : (s : Sort) → parse_sort fault ≡ s → Refuses zero_counts (IsSpelled text (Err (script_status fault))) (by_sort s (status.Script fault) (status.Limit (limit.Parse fault)))
     by Plain e = record {
       may = due (λ (x : parse_sort fault ≡ NoMemory). apart_plain (sym e ∙ x));
-      early = record { between = tt; founded = tt; placed = e; named = record { file = tt; access = tt } };
+      early = record { between = tt; founded = tt; placed = e; named = record { file = tt; access = tt; remote = tt } };
     }
     by PastLimit e = record {
       may = due (λ (x : parse_sort fault ≡ NoMemory). apart_limit (sym e ∙ x));
-      early = record { between = tt; founded = tt; placed = e; named = record { file = tt; access = tt } };
+      early = record { between = tt; founded = tt; placed = e; named = record { file = tt; access = tt; remote = tt } };
     }
     by NoMemory e = refuses_memory _
 
 -- the refusal of a statement's fault
 pub refuses_statement : (scope : Scope) (number : ℕ) (s : Statement) (fault : BindFault) → (fault ≢ bind.Memory → binding.IsBindFault scope s fault)
-    → Refuses 0 0 (IsBoundTo scope number s (Err (bind_status number fault))) (bind_status number fault)
+    → Refuses zero_counts (IsBoundTo scope number s (Err (bind_status number fault))) (bind_status number fault)
 refuses_statement scope number s fault h = by (bind_sort fault) refl
   where
     due : bind_sort fault ≢ NoMemory → IsBoundTo scope number s (Err (bind_status number fault))
     due f = (fault, h (λ (e : fault ≡ bind.Memory). f (ap bind_sort e)), refl)
 
     by : (x : Sort) → bind_sort fault ≡ x
-        → Refuses 0 0 (IsBoundTo scope number s (Err (bind_status number fault))) (by_sort x (status.Bind number fault) (status.Limit (limit.Bind number fault)))
+        → Refuses zero_counts (IsBoundTo scope number s (Err (bind_status number fault))) (by_sort x (status.Bind number fault) (status.Limit (limit.Bind number fault)))
     by Plain e = record {
       may = due (λ (x : bind_sort fault ≡ NoMemory). apart_plain (sym e ∙ x));
-      early = record { between = tt; founded = tt; placed = e; named = record { file = tt; access = tt } };
+      early = record { between = tt; founded = tt; placed = e; named = record { file = tt; access = tt; remote = tt } };
     }
     by PastLimit e = record {
       may = due (λ (x : bind_sort fault ≡ NoMemory). apart_limit (sym e ∙ x));
-      early = record { between = tt; founded = tt; placed = e; named = record { file = tt; access = tt } };
+      early = record { between = tt; founded = tt; placed = e; named = record { file = tt; access = tt; remote = tt } };
     }
     by NoMemory e = refuses_memory _
 

@@ -23,7 +23,8 @@ use Rattle.sq_bind.proofs.SplitLemmas.{placed_at, split_of-All, split_of-Compare
 use Rattle.demo_tables.specs.Demo.{demo}
 use Rattle.run_base.specs.declared.bound.Bound.{Bound}
 use Rattle.run_plan.specs.Accesses.{accesses_to, accesses_read, first_lacking}
-use Rattle.run_plan.specs.Prepared.{Predicates, HasDemoPlan, IsBoundTo, AreBoundTo, IsBoundPlan, IsDemoPlan}
+use Rattle.run_plan.specs.Headings.{opened_as}
+use Rattle.run_plan.specs.Prepared.{Predicates, HasDemoPlan, IsBoundTo, AreBoundTo, IsBoundPlan, IsDemoPlan, plan_opened}
 use Rattle.run_plan.specs.declared.plan.Plan.{Plan}
 use Rattle.run_plan.specs.declared.status.Status.{Status}
 use Rattle.run_plan.proofs.DemoReading.{spelled_demo}
@@ -73,7 +74,7 @@ module _ (calls : Calls) (aliases : List Alias) where
 
 module _ (p : Predicates) (rows shift : ℕ) where
   abbrev scope : Scope
-  scope = over (demo rows shift) (accesses_to (demo rows shift).tables []) p.calls
+  scope = over (demo rows shift) (accesses_to (demo rows shift).tables [] []) p.calls
 
   abbrev seen : Statement → List Alias
   seen s = aliases_in scope s
@@ -138,7 +139,7 @@ module _ (p : Predicates) (rows shift : ℕ) where
       (rest p.calls (seen third) third third_condition refl third_right refl refl refl refl) (omega arith) (refl, (refl, tt))
 
   abbrev demo_plan : Plan
-  demo_plan = record { statements = bound_of first ∷ bound_of second ∷ bound_of third ∷ []; catalogue = demo rows shift }
+  demo_plan = plan_opened (opened_as (demo rows shift) []) (bound_of first ∷ bound_of second ∷ bound_of third ∷ [])
 
   all_bound : AreBoundTo scope 1 demo_tree.statements (Ok demo_plan.statements)
   unfolding AreBoundTo
@@ -152,9 +153,9 @@ module _ (p : Predicates) (rows shift : ℕ) where
     ),
   )
 
-  planned_over : IsBoundPlan p [] demo_tree (demo rows shift) (Ok demo_plan)
+  planned_over : IsBoundPlan p [] demo_tree (opened_as (demo rows shift) []) (Ok demo_plan)
   unfolding accesses_read first_lacking
-  planned_over = (Ok (accesses_to (demo rows shift).tables []), refl, (Ok demo_plan.statements, all_bound, refl))
+  planned_over = (Ok (accesses_to (demo rows shift).tables [] []), refl, (Ok demo_plan.statements, all_bound, refl))
 
 pub planned_demo : (p : Predicates) (rows seed : ℕ) → HasDemoPlan p rows seed
 unfolding IsDemoPlan

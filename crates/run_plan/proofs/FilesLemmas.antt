@@ -5,7 +5,7 @@ use Rattle.std.proofs.lemmas.List.{take_all, take_more, take-append-drop, length
 use Rattle.std.proofs.Math.Seq.{take-append_seam}
 use Rattle.std.proofs.lemmas.Bool.{lt-ltb, le-ltb, cases_lt}
 use Rattle.outside.specs.Files.{File, lookup, Gives as Loads, Lacks}
-use Rattle.run_plan.specs.Given.{IsFileGiven, AreFilesGiven}
+use Rattle.run_plan.specs.Given.{IsFileGiven}
 use Rattle.outside.specs.Faults.{NeverFalls, RoseOrFull}
 use Rattle.outside.specs.declared.fault.LoadFault.{LoadFault}
 use Rattle.outside.specs.declared.fault.LoadFault.TheVariants as load
@@ -21,6 +21,7 @@ use Rattle.run_plan.specs.Faults.{Sort, Plain, PastLimit, NoMemory, table_sort, 
 use Rattle.run_plan.specs.Files.{short_text, file_read, table_read, tables_read, catalogue_of, catalogue_read}
 use Rattle.run_plan.specs.Loaded.{load_status}
 use Rattle.run_plan.specs.Prepared.{ReachedTable}
+use Rattle.run_plan.specs.Stage.{Before, phase_of_file}
 use Rattle.run_base.specs.Seen.{Folder}
 use Rattle.run_plan.specs.Steps.{◌>>=◌, ComesTo, or_refuse, or_fault}
 use Rattle.run_plan.specs.declared.status.Status.{Status}
@@ -29,7 +30,8 @@ use Rattle.run_plan.specs.declared.status.FileOf.{FileOf}
 use Rattle.run_plan.specs.declared.status.FileOf.TheVariants as file
 use Rattle.run_plan.specs.declared.status.LimitOf.TheVariants as limit
 use Rattle.run_plan.proofs.DoingLemmas.{refuses_memory}
-use Rattle.run_plan.specs.Naming.{tables_to}
+use Rattle.run_plan.proofs.GivenLemmas.{Found, found_at, is_found}
+use Rattle.run_plan.specs.Naming.{counts, counts_to}
 use Rattle.run_plan.proofs.StageLemmas.{file_refuses, file_between, file_to}
 
 -- ---- a file
@@ -51,20 +53,7 @@ short_text-front f xs = by (cases_lt 67108864 (length xs))
     by (inl h) = short_text-long f (take 67108865 xs) (omega (arith, length-take 67108865 xs)) ∙ sym (short_text-long f xs h)
     by (inr h) = ap (short_text f) (take_all 67108865 xs (omega arith))
 
--- ---- what is given of a file
-
--- what is given of a file that a folder was asked for: what it holds, where it tells that, and else what was loaded
-abbrev pub found_at : Option (List File) → List ℕ → Option (List ℕ) → Option (List ℕ)
-found_at None name loaded = loaded
-found_at (Some files) name loaded = lookup files name
-
-pub is_found : (held : Option (List File)) (name : List ℕ) (loaded : Option (List ℕ)) → IsFileGiven name held (found_at held name loaded)
-is_found None name loaded files e = absurd cc
-is_found (Some given) name loaded files e = let same : given ≡ files = cc in ap (λ (fs : List File). lookup fs name) same
-
--- the same where the folder is as it was
-pub found_before : (name : List ℕ) (old mid : Option (List File)) (found : Option (List ℕ)) → mid ≡ old → IsFileGiven name mid found → IsFileGiven name old found
-found_before name old mid found same h = subst (λ (o : Option (List File)). IsFileGiven name o found) same h
+-- ---- what was loaded of a file
 
 -- what was loaded stands for the whole file
 pub file_read-loaded : (f : FileOf) (name : List ℕ) (held : Option (List File)) (bytes : List ℕ) → Loads held name 67108865 bytes
@@ -99,47 +88,47 @@ went_loaded f name bytes old new keeps kept gives short = record {
   tells = sym (short_text-short f bytes short) ∙ file_read-loaded f name old.holds bytes gives;
 }
 
-pub stopped_long : (f : FileOf) (name bytes : List ℕ) (old new : Folder) → new.holds ≡ old.holds → new.faults ≡ old.faults
+pub stopped_long : (f : FileOf) (name bytes : List ℕ) (old new : Folder) → phase_of_file f ≡ Before → new.holds ≡ old.holds → new.faults ≡ old.faults
     → Loads old.holds name 67108865 bytes → 67108864 < length bytes
-    → Stopped (tables_to f) 0 old new (IsFileGiven name) (λ found. ComesTo (file_read f found) (Err (status.Limit (limit.File f))))
+    → Stopped (counts_to f) old new (IsFileGiven name) (λ found. ComesTo (file_read f found) (Err (status.Limit (limit.File f))))
     (λ found g. g ≡ f) (status.Limit (limit.File f))
-stopped_long f name bytes old new keeps kept gives long = record {
+stopped_long f name bytes old new before keeps kept gives long = record {
   keeps = keeps;
   counts = omega (arith, kept);
   kept = kept;
   given = found_at old.holds name (Some bytes);
   agrees = is_found old.holds name (Some bytes);
-  refused = file_refuses f _ (sym (short_text-long f bytes long) ∙ file_read-loaded f name old.holds bytes gives);
+  refused = file_refuses f _ before (sym (short_text-long f bytes long) ∙ file_read-loaded f name old.holds bytes gives);
   read = λ g e. absurd cc;
-  early = record { between = file_between f; founded = tt; placed = tt; named = record { file = file_to f; access = tt } };
+  early = record { between = file_between f before; founded = tt; placed = tt; named = record { file = file_to f; access = tt; remote = tt } };
 }
 
 -- a load that failed
-pub stopped_load : (f : FileOf) (name : List ℕ) (fault : LoadFault) (old new : Folder) → new.holds ≡ old.holds → NeverFalls old.faults new.faults
+pub stopped_load : (f : FileOf) (name : List ℕ) (fault : LoadFault) (old new : Folder) → phase_of_file f ≡ Before → new.holds ≡ old.holds → NeverFalls old.faults new.faults
     → (fault ≡ load.Absent → Lacks old.holds name) → (fault ≡ load.Absent → new.faults ≡ old.faults)
     → (fault ≡ load.Failed → RoseOrFull old.faults new.faults)
-    → Stopped (tables_to f) 0 old new (IsFileGiven name) (λ found. ComesTo (file_read f found) (Err (load_status f fault)))
+    → Stopped (counts_to f) old new (IsFileGiven name) (λ found. ComesTo (file_read f found) (Err (load_status f fault)))
     (λ found g. g ≡ f) (load_status f fault)
-stopped_load f name load.Absent old new keeps counts absent kept rose = record {
+stopped_load f name load.Absent old new before keeps counts absent kept rose = record {
   keeps = keeps;
   counts = counts;
   kept = kept refl;
   given = found_at old.holds name None;
   agrees = is_found old.holds name None;
-  refused = file_refuses f _ (sym (file_read-lacks f name old.holds (absent refl)));
+  refused = file_refuses f _ before (sym (file_read-lacks f name old.holds (absent refl)));
   read = λ g e. absurd cc;
   early = record {
-    between = file_between f;
+    between = file_between f before;
     founded = told_by old.holds (absent refl);
     placed = tt;
-    named = record { file = file_to f; access = tt };
+    named = record { file = file_to f; access = tt; remote = tt };
   };
 }
   where
     told_by : (held : Option (List File)) → Lacks held name → IsSome held
     told_by None h = absurd h
     told_by (Some files) h = refl
-stopped_load f name load.Failed old new keeps counts absent kept rose = record {
+stopped_load f name load.Failed old new before keeps counts absent kept rose = record {
   keeps = keeps;
   counts = counts;
   kept = tt;
@@ -147,9 +136,9 @@ stopped_load f name load.Failed old new keeps counts absent kept rose = record {
   agrees = is_found old.holds name None;
   refused = refl;
   read = λ g e. rose refl;
-  early = record { between = file_between f; founded = tt; placed = tt; named = record { file = file_to f; access = tt } };
+  early = record { between = file_between f before; founded = tt; placed = tt; named = record { file = file_to f; access = tt; remote = tt } };
 }
-stopped_load f name load.Memory old new keeps counts absent kept rose = record {
+stopped_load f name load.Memory old new before keeps counts absent kept rose = record {
   keeps = keeps;
   counts = counts;
   kept = tt;
@@ -157,7 +146,7 @@ stopped_load f name load.Memory old new keeps counts absent kept rose = record {
   agrees = is_found old.holds name None;
   refused = tt;
   read = λ g e. absurd cc;
-  early = record { between = tt; founded = tt; placed = tt; named = record { file = tt; access = tt } };
+  early = record { between = tt; founded = tt; placed = tt; named = record { file = tt; access = tt; remote = tt } };
 }
 
 -- ---- a table
@@ -169,26 +158,26 @@ apart_limit : PastLimit ≡ NoMemory → ⊥
 apart_limit e = cc
 
 -- the refusal of a table's fault
-pub refuses_table : (number : ℕ) (P : Type 0) (fault : TableFault) → (fault ≢ table.Memory → P) → Refuses (number + 1) 0 P (table_status number fault)
+pub refuses_table : (number : ℕ) (P : Type 0) (fault : TableFault) → (fault ≢ table.Memory → P) → Refuses (counts (number + 1) 0 0) P (table_status number fault)
 refuses_table number P fault h = by (table_sort fault) refl
   where
     named : table_sort fault ≢ NoMemory → fault ≢ table.Memory
     named f e = f (ap table_sort e)
 
     by : (s : Sort) → table_sort fault ≡ s
-        → Refuses (number + 1) 0 P (by_sort s (status.BadTable number fault) (status.Limit (limit.Table number fault)))
+        → Refuses (counts (number + 1) 0 0) P (by_sort s (status.BadTable number fault) (status.Limit (limit.Table number fault)))
     by Plain e = record {
       may = h (named (λ (x : table_sort fault ≡ NoMemory). absurd (apart_plain (sym e ∙ x))));
-      early = record { between = tt; founded = tt; placed = e; named = record { file = omega arith; access = tt } };
+      early = record { between = tt; founded = tt; placed = e; named = record { file = omega arith; access = tt; remote = tt } };
     }
     by PastLimit e = record {
       may = h (named (λ (x : table_sort fault ≡ NoMemory). absurd (apart_limit (sym e ∙ x))));
-      early = record { between = tt; founded = tt; placed = e; named = record { file = omega arith; access = tt } };
+      early = record { between = tt; founded = tt; placed = e; named = record { file = omega arith; access = tt; remote = tt } };
     }
     by NoMemory e = refuses_memory P
 
 pub refuses_bytes : (number : ℕ) (bytes : List ℕ) (fault : TableFault) → (fault ≢ table.Memory → table_of_bytes bytes ≡ Err fault)
-    → Refuses (number + 1) 0 (ComesTo (or_fault (table_status number) (table_of_bytes bytes)) (Err (table_status number fault)))
+    → Refuses (counts (number + 1) 0 0) (ComesTo (or_fault (table_status number) (table_of_bytes bytes)) (Err (table_status number fault)))
     (table_status number fault)
 refuses_bytes number bytes fault h = refuses_table number _ fault (λ other. sym (ap (or_fault (table_status number)) (h other)))
 
@@ -213,10 +202,6 @@ unfolding table_read
 table_read-unread number found s e = ap (λ (r : Result (List ℕ) Status). r >>= (λ xs. or_fault (table_status number) (table_of_bytes xs))) e
 
 -- ---- tables, in order
-
--- what is given of a file
-abbrev pub Found : Type 0
-Found = Option (List ℕ)
 
 -- the tables of more files, behind those that were read
 abbrev pub read_behind : ℕ → List Relation → Found → List Found → Result (List Relation) Status
@@ -271,79 +256,7 @@ tables_read-refused founds rest i found tables s long e f =
     tables_read-behind 0 founds found rest tables e ∙ ap (λ (n : ℕ). read_behind n tables found rest) place
     ∙ ap (λ (a : Result Relation Status). a >>= (λ t. tables_read (i + 1) rest >>= (λ ts. Ok (tables ++ (t ∷ ts))))) (sym f)
 
--- ---- what is given of the files of tables
-
--- the files of no table, of one more, and of all where the rest isn't loaded
-pub found_none : (held : Option (List File)) → AreFilesGiven [] held []
-found_none held = record { count = refl; held = λ files e. refl }
-
--- what a folder that holds these files gives of a table's
-abbrev held_at : List File → TableWord → Found
-held_at files t = lookup files t.file
-
-one_more : (files : List File) (all : List TableWord) (i : ℕ) (word d : TableWord) (founds : List Found) (found : Found) → i < length all
-    → word ≡ get_or all i d → founds ≡ map (held_at files) (take i all) → found ≡ held_at files word
-    → founds ++ found ∷ [] ≡ map (held_at files) (take (i + 1) all)
-one_more files all i word d founds found h is before here =
-    ap (λ (xs : List Found). xs ++ found ∷ []) before ∙ ap (λ (x : Found). map (held_at files) (take i all) ++ x ∷ []) here
-    ∙ sym (map-append (held_at files) (take i all) (word ∷ []))
-    ∙ ap (λ (w : TableWord). map (held_at files) (take i all ++ w ∷ [])) is ∙ ap (map (held_at files)) (sym (take_more all i d h))
-
-one_longer : (founds : List Found) (found : Found) (i : ℕ) → length founds ≡ i → length (founds ++ found ∷ []) ≡ i + 1
-one_longer founds found i e = length-append founds (found ∷ []) ∙ ap (λ (n : ℕ). n + 1) e
-
-pub found_more : (held : Option (List File)) (all : List TableWord) (i : ℕ) (word d : TableWord) (founds : List Found) (found : Found)
-    → i < length all → word ≡ get_or all i d → AreFilesGiven (take i all) held founds → IsFileGiven word.file held found
-    → AreFilesGiven (take (i + 1) all) held (founds ++ found ∷ [])
-found_more held all i word d founds found h is before here =
-    let now : length (take (i + 1) all) ≡ i + 1 = length-take-le (i + 1) all (omega (arith, h)) in
-    let was : length (take i all) ≡ i = length-take-le i all (omega (arith, h)) in
-    record {
-      count = one_longer founds found i (before.count ∙ was) ∙ sym now;
-      held = λ files e. one_more files all i word d founds found h is (before.held files e) (here files e);
-    }
-
--- what is given of files that weren't loaded
-abbrev pub unread : Option (List File) → List TableWord → List Found
-unread held words = map (λ (t : TableWord). found_at held t.file None) words
-
-unread_held : (files : List File) (words : List TableWord) → unread (Some files) words ≡ map (held_at files) words
-unread_held files words = refl
-
-pub unread_found : (held : Option (List File)) (words : List TableWord) → AreFilesGiven words held (unread held words)
-unread_found held words = record {
-  count = length-map words (λ (t : TableWord). found_at held t.file None);
-  held = λ files e. ap (λ (o : Option (List File)). unread o words) e ∙ unread_held files words;
-}
-
-pub found_rest : (held : Option (List File)) (all : List TableWord) (i : ℕ) (founds : List Found) → i ≤ length all
-    → AreFilesGiven (take i all) held founds → AreFilesGiven all held (founds ++ unread held (drop i all))
-found_rest held all i founds h before =
-    let rest = unread_found held (drop i all) in
-    let split : length (take i all) + length (drop i all) ≡ length all =
-    sym (length-append (take i all) (drop i all)) ∙ ap (λ (ts : List TableWord). length ts) (take-append-drop i all) in
-    record {
-      count = length-append founds (unread held (drop i all)) ∙ ap (λ (n : ℕ). n + length (unread held (drop i all))) before.count
-          ∙ ap (λ (n : ℕ). length (take i all) + n) rest.count ∙ split;
-      held = λ files e. ap (λ (xs : List Found). xs ++ unread held (drop i all)) (before.held files e)
-          ∙ ap (λ (xs : List Found). map (held_at files) (take i all) ++ xs) (rest.held files e)
-          ∙ sym (map-append (held_at files) (take i all) (drop i all)) ∙ ap (map (held_at files)) (take-append-drop i all);
-    }
-
-pub found_count : (held : Option (List File)) (all : List TableWord) (i : ℕ) (founds : List Found) → i ≤ length all
-    → AreFilesGiven (take i all) held founds → length founds ≡ i
-found_count held all i founds h before = before.count ∙ length-take-le i all h
-
-pub found_through : (held : Option (List File)) (all : List TableWord) (i : ℕ) (word d : TableWord) (founds : List Found) (found : Found)
-    → i < length all → word ≡ get_or all i d → AreFilesGiven (take i all) held founds → IsFileGiven word.file held found
-    → AreFilesGiven all held (founds ++ found ∷ unread held (drop (i + 1) all))
-found_through held all i word d founds found h is before here =
-    subst (AreFilesGiven all held) (append_assoc founds (found ∷ []) (unread held (drop (i + 1) all)))
-    (found_rest held all (i + 1) (founds ++ found ∷ []) (omega (arith, h)) (found_more held all i word d founds found h is before here))
-
--- the same of the files of a query, where the folder is as it was
-pub found_all : (words : List TableWord) (old mid : Option (List File)) (founds : List Found) → mid ≡ old → AreFilesGiven words mid founds → AreFilesGiven words old founds
-found_all words old mid founds same h = subst (λ (o : Option (List File)). AreFilesGiven words o founds) same h
+-- ---- the tables of words
 
 -- what stands of the catalogue once the first words' tables were read
 pub record IsReadTo (founds : List Found) (words : List TableWord) (catalogue : NamedTables) : Type 0 where

@@ -6,7 +6,6 @@ use Rattle.sq_parse.specs.declared.tree.Statement.{Statement}
 use Rattle.sq_expr.specs.declared.block.Block.{Block}
 use Rattle.sq_expr.specs.declared.shape.Shape.{Shape}
 use Rattle.run_base.specs.declared.bound.Bound.{Bound}
-use Rattle.catalogue.specs.Named.{NamedTables}
 use Rattle.sq_bind.specs.Answer as binding
 use Rattle.sq_bind.specs.Given.{over}
 use Rattle.sq_bind.specs.Statement.{Scope}
@@ -20,8 +19,9 @@ use Rattle.run_plan.specs.DemoScript.{demo_script}
 use Rattle.run_plan.specs.Accesses.{accesses_read}
 use Rattle.run_plan.specs.Given.{Given}
 use Rattle.run_plan.specs.Faults.{script_status, bind_status}
-use Rattle.run_plan.specs.Files.{file_read, catalogue_read}
-use Rattle.run_plan.specs.Prepared.{IsSpelled, IsScript, IsBoundAs, IsBoundTo, AreBoundTo, IsBoundPlan, IsPlan, IsDemoPlan, Predicates}
+use Rattle.run_plan.specs.Files.{file_read}
+use Rattle.run_plan.specs.Headings.{Opened, opened_as}
+use Rattle.run_plan.specs.Prepared.{IsSpelled, IsScript, IsBoundAs, IsBoundTo, AreBoundTo, IsBoundPlan, IsPlan, IsDemoPlan, Predicates, plan_opened, all_read}
 use Rattle.run_plan.specs.Steps.{Behind, AndThen, ComesTo, or_fault}
 use Rattle.run_plan.specs.declared.status.FileOf.TheVariants as file
 use Rattle.run_plan.specs.declared.status.Status.{Status}
@@ -87,26 +87,24 @@ one_blocks scope number (s ∷ more) x y h k =
 one_script : (found : Option (List ℕ)) → IsOne (IsScript found)
 one_script found = one_then (ComesTo (file_read file.Script found)) IsSpelled (one_given (file_read file.Script found)) one_spelled
 
-one_bound_plan : (p : Predicates) (asks : List AccessWord) (script : Script) (catalogue : NamedTables) → IsOne (IsBoundPlan p asks script catalogue)
-one_bound_plan p asks script catalogue =
-    one_then (ComesTo (accesses_read catalogue.tables asks))
-    (λ accesses. AndThen (AreBoundTo (over catalogue accesses p.calls) 1 script.statements)
-    (λ blocks. ComesTo (Ok record { statements = blocks; catalogue = catalogue })))
-    (one_given (accesses_read catalogue.tables asks))
-    (λ accesses. one_then (AreBoundTo (over catalogue accesses p.calls) 1 script.statements)
-    (λ blocks. ComesTo (Ok record { statements = blocks; catalogue = catalogue }))
-    (one_blocks (over catalogue accesses p.calls) 1 script.statements) (λ blocks. one_given (Ok record { statements = blocks; catalogue = catalogue })))
+one_bound_plan : (p : Predicates) (asks : List AccessWord) (script : Script) (o : Opened) → IsOne (IsBoundPlan p asks script o)
+one_bound_plan p asks script o =
+    one_then (ComesTo (accesses_read o.catalogue.tables asks o.remotes))
+    (λ accesses. AndThen (AreBoundTo (over o.catalogue accesses p.calls) 1 script.statements) (λ blocks. ComesTo (Ok (plan_opened o blocks))))
+    (one_given (accesses_read o.catalogue.tables asks o.remotes))
+    (λ accesses. one_then (AreBoundTo (over o.catalogue accesses p.calls) 1 script.statements) (λ blocks. ComesTo (Ok (plan_opened o blocks)))
+    (one_blocks (over o.catalogue accesses p.calls) 1 script.statements) (λ blocks. one_given (Ok (plan_opened o blocks))))
 
 pub one_plan : (p : Predicates) (q : Query) (given : Given) → IsOne (IsPlan p q given)
 unfolding IsPlan
 one_plan p q given =
-    one_then (IsScript given.script) (λ script. AndThen (ComesTo (catalogue_read given.tables q.tables)) (λ catalogue. IsBoundPlan p q.accesses script catalogue))
+    one_then (IsScript given.script) (λ script. AndThen (ComesTo (all_read given q)) (λ o. IsBoundPlan p q.accesses script o))
     (one_script given.script)
-    (λ script. one_then (ComesTo (catalogue_read given.tables q.tables)) (λ catalogue. IsBoundPlan p q.accesses script catalogue)
-    (one_given (catalogue_read given.tables q.tables)) (one_bound_plan p q.accesses script))
+    (λ script. one_then (ComesTo (all_read given q)) (λ o. IsBoundPlan p q.accesses script o)
+    (one_given (all_read given q)) (one_bound_plan p q.accesses script))
 
 pub one_demo : (p : Predicates) (rows seed : ℕ) → IsOne (IsDemoPlan p rows seed)
 unfolding IsDemoPlan
 one_demo p rows seed =
-    one_then (IsSpelled demo_script) (λ script. IsBoundPlan p [] script (demo rows (seed % 1000))) (one_spelled demo_script)
-    (λ script. one_bound_plan p [] script (demo rows (seed % 1000)))
+    one_then (IsSpelled demo_script) (λ script. IsBoundPlan p [] script (opened_as (demo rows (seed % 1000)) [])) (one_spelled demo_script)
+    (λ script. one_bound_plan p [] script (opened_as (demo rows (seed % 1000)) []))

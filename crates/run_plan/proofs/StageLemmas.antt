@@ -1,10 +1,10 @@
 -- What the phase and the stage of a status tell of a step's refusal.
-use Rattle.std.proofs.Common.{◌≡◌, ℕ, ◌≤◌, arith, Option, Some, None, refl, ap, subst}
+use Rattle.std.proofs.Common.{◌≡◌, ℕ, ◌<◌, ◌≤◌, arith, Option, Some, None, refl, sym, ap, subst}
 use Rattle.std.specs.Prelude.{IfSome, MatchOption, ⊤}
-use Rattle.run_plan.specs.Stage.{Phase, Before, Writing, AnyTime, phase_of, phase_of_file, stage_of, file_unread}
+use Rattle.run_plan.specs.Stage.{Phase, Before, AtStatement, Writing, AnyTime, phase_of, phase_of_file, stage_of, file_unread}
 use Rattle.run_plan.specs.Refusal.{RefusesIn, MayRefuse, IsNotWriting, IsBetween, IsFounded, IsEarly, HoldsAt, UnlessReadOrMemory}
 use Rattle.run_plan.specs.Doing.{never}
-use Rattle.run_plan.specs.Naming.{IsNamed, IsFileOf, IsAccessOf, file_named, access_named, tables_to}
+use Rattle.run_plan.specs.Naming.{Counts, IsNamed, IsFileOf, IsAccessOf, file_named, access_named, remote_limited, counts_to}
 use Rattle.run_plan.specs.declared.status.FileOf.{FileOf}
 use Rattle.run_plan.specs.declared.status.FileOf.TheVariants as file
 use Rattle.run_plan.specs.declared.status.LimitOf.TheVariants as limit
@@ -20,6 +20,7 @@ pure_unread P s f h e = subst (MayRefuse never P) e h
 -- a refusal for a reason that is weaker
 weaker_in : (phase : Phase) (P Q : Type 0) → (P → Q) → RefusesIn phase P → RefusesIn phase Q
 weaker_in Before P Q f h = f h
+weaker_in AtStatement P Q f h = h
 weaker_in Writing P Q f h = h
 weaker_in AnyTime P Q f h = tt
 
@@ -36,30 +37,44 @@ founded : (told tells : Type 0) (s : Status) → (told → tells) → IsFounded 
 founded told tells (status.NotFound file) f h = f h
 founded told tells _ f h = tt
 
+-- so many are no more than so many others
+pub record AreWithin (few many : Counts) : Type 0 where
+  pub tables : few.tables ≤ many.tables
+  pub accesses : few.accesses ≤ many.accesses
+  pub remotes : few.remotes ≤ many.remotes
+
 -- what a status names of so many, it names of more
-named_more : {t u a b : ℕ} (s : Status) → IsNamed t a s → t ≤ u → a ≤ b → IsNamed u b s
-named_more {t} {u} {a} {b} s h files accesses = record { file = at (file_named s) h.file; access = by (access_named s) h.access }
+named_more : (few many : Counts) (s : Status) → AreWithin few many → IsNamed few s → IsNamed many s
+named_more few many s w h = record { file = at (file_named s) h.file; access = by (access_named s) h.access; remote = among (remote_limited s) h.remote }
   where
-    at : (o : Option FileOf) → IfSome o (IsFileOf t) → IfSome o (IsFileOf u)
+    at : (o : Option FileOf) → IfSome o (IsFileOf few) → IfSome o (IsFileOf many)
     at None k = k
     at (Some file.Script) k = tt
-    at (Some (file.Table number)) k = omega (arith, k, files)
+    at (Some (file.Table number)) k = omega (arith, k, w.tables)
+    at (Some (file.Heading remote)) k = omega (arith, k, w.remotes)
+    at (Some (file.Key key)) k = omega (arith, k, w.remotes)
 
-    by : (o : Option ℕ) → IfSome o (IsAccessOf a) → IfSome o (IsAccessOf b)
+    by : (o : Option ℕ) → IfSome o (IsAccessOf few.accesses) → IfSome o (IsAccessOf many.accesses)
     by None k = k
-    by (Some number) k = (k.0, omega (arith, k.1, accesses))
+    by (Some number) k = (k.0, omega (arith, k.1, w.accesses))
 
--- a file is among the tables up to it
-pub file_to : (f : FileOf) → IsFileOf (tables_to f) f
+    among : (o : Option ℕ) → IfSome o (λ (remote : ℕ). remote < few.remotes) → IfSome o (λ (remote : ℕ). remote < many.remotes)
+    among None k = k
+    among (Some remote) k = omega (arith, k, w.remotes)
+
+-- a file is among those up to it
+pub file_to : (f : FileOf) → IsFileOf (counts_to f) f
 file_to file.Script = tt
 file_to (file.Table number) = omega arith
+file_to (file.Heading remote) = omega arith
+file_to (file.Key at) = omega arith
 
-pub IsEarly-weaker : {t u a b : ℕ} (told tells : Type 0) (s : Status) → (told → tells) → IsEarly t a told s → t ≤ u → a ≤ b → IsEarly u b tells s
-IsEarly-weaker told tells s f h files accesses = record {
+pub IsEarly-weaker : (few many : Counts) (told tells : Type 0) (s : Status) → (told → tells) → AreWithin few many → IsEarly few told s → IsEarly many tells s
+IsEarly-weaker few many told tells s f w h = record {
   between = h.between;
   founded = founded told tells s f h.founded;
   placed = h.placed;
-  named = named_more s h.named files accesses;
+  named = named_more few many s w h.named;
 }
 
 -- what holds of any status
@@ -90,25 +105,23 @@ holds_same s P Q f = by (file_unread s)
 between_not : (s t : Status) → s ≡ t → (IsBetween t → ⊥) → IsBetween s → ⊥
 between_not s t e none h = none (subst IsBetween e h)
 
-pub early_not_done : {t a : ℕ} (told : Type 0) (s : Status) → IsEarly t a told s → s ≡ status.Done → ⊥
+pub early_not_done : {known : Counts} (told : Type 0) (s : Status) → IsEarly known told s → s ≡ status.Done → ⊥
 early_not_done told s h e = between_not s status.Done e (λ x. x) h.between
 
-pub early_not_write : {t a : ℕ} (told : Type 0) (s : Status) → IsEarly t a told s → s ≡ status.Write → ⊥
+pub early_not_write : {known : Counts} (told : Type 0) (s : Status) → IsEarly known told s → s ≡ status.Write → ⊥
 early_not_write told s h e = between_not s status.Write e (λ x. x) h.between
 
-pub early_not_usage : {t a : ℕ} (told : Type 0) (s : Status) → IsEarly t a told s → s ≡ status.Usage → ⊥
+pub early_not_usage : {known : Counts} (told : Type 0) (s : Status) → IsEarly known told s → s ≡ status.Usage → ⊥
 early_not_usage told s h e = between_not s status.Usage e (λ x. x) h.between
 
--- a refusal at a file comes before the output
-pub file_refuses : (f : FileOf) (P : Type 0) → P → RefusesIn (phase_of_file f) P
-file_refuses file.Script P h = h
-file_refuses (file.Table number) P h = h
+-- a refusal at a file that is loaded before the output
+pub file_refuses : (f : FileOf) (P : Type 0) → phase_of_file f ≡ Before → P → RefusesIn (phase_of_file f) P
+file_refuses f P e h = subst (λ (phase : Phase). RefusesIn phase P) (sym e) h
 
-pub file_between : (f : FileOf) → IsNotWriting (phase_of_file f)
-file_between file.Script = tt
-file_between (file.Table number) = tt
+pub file_between : (f : FileOf) → phase_of_file f ≡ Before → IsNotWriting (phase_of_file f)
+file_between f e = subst IsNotWriting (sym e) tt
 
-pub early_not_found : {t a : ℕ} (told : Type 0) (s : Status) (f : FileOf) → IsEarly t a told s → s ≡ status.NotFound f → told
+pub early_not_found : {known : Counts} (told : Type 0) (s : Status) (f : FileOf) → IsEarly known told s → s ≡ status.NotFound f → told
 early_not_found told s f h e = subst (IsFounded told) e h.founded
 
 -- the file of a read fault
@@ -134,13 +147,21 @@ memory_alone P status.Usage f may = absurd (f may)
 memory_alone P (status.Script fault) f may = absurd (f may)
 memory_alone P (status.Bind statement fault) f may = absurd (f may)
 memory_alone P (status.BadTable table fault) f may = absurd (f may)
+memory_alone P (status.BadHeading remote) f may = absurd (f may)
+memory_alone P (status.BadKey at why) f may = absurd may
 memory_alone P (status.NoColumn access) f may = absurd (f may)
 memory_alone P (status.NotFound file.Script) f may = absurd (f may)
 memory_alone P (status.NotFound (file.Table number)) f may = absurd (f may)
+memory_alone P (status.NotFound (file.Heading remote)) f may = absurd (f may)
+memory_alone P (status.NotFound (file.Key at)) f may = absurd may
 memory_alone P (status.Read it) f may = absurd may
 memory_alone P status.Write f may = absurd may
 memory_alone P (status.Limit (limit.File file.Script)) f may = absurd (f may)
 memory_alone P (status.Limit (limit.File (file.Table number))) f may = absurd (f may)
+memory_alone P (status.Limit (limit.File (file.Heading remote))) f may = absurd (f may)
+memory_alone P (status.Limit (limit.File (file.Key at))) f may = absurd may
 memory_alone P (status.Limit (limit.Parse fault)) f may = absurd (f may)
 memory_alone P (status.Limit (limit.Table number fault)) f may = absurd (f may)
 memory_alone P (status.Limit (limit.Bind statement fault)) f may = absurd (f may)
+memory_alone P (status.Limit (limit.Keys remote)) f may = absurd may
+memory_alone P (status.Limit (limit.Rows remote)) f may = absurd may

@@ -4,6 +4,7 @@ use Rattle.outside.specs.Files.{File}
 use Rattle.outside.specs.Faults.{NeverFalls, RoseOrFull}
 use Rattle.sq_parse.specs.Spelling.{Spelled}
 use Rattle.sq_parse.specs.declared.tree.Script.{Script}
+use Rattle.run_plan.specs.Naming.{Counts}
 use Rattle.run_plan.specs.Refusal.{MayRefuse, IsEarly, UnlessReadOrMemory}
 use Rattle.run_base.specs.Seen.{Folder}
 use Rattle.run_plan.specs.declared.status.FileOf.{FileOf}
@@ -28,14 +29,14 @@ pub record Went (old new : Folder) {X : Type 0} (IsAs : Option (List File) → X
   pub agrees : IsAs old.holds given
   pub tells : told given
 
--- a step that touches no folder refused, and named at most one of so many tables or accesses
-pub record Refuses (tables accesses : ℕ) (expected : Type 0) (s : Status) : Type 0 where
+-- a step that touches no folder refused, and named at most one of so many tables, accesses or remotes
+pub record Refuses (known : Counts) (expected : Type 0) (s : Status) : Type 0 where
   pub may : MayRefuse never expected s
-  pub early : IsEarly tables accesses ⊥ s
+  pub early : IsEarly known ⊥ s
 
 -- a step refused: by what was given that was expected, or a file that was reached wasn't read. It named at most one of
--- so many tables or accesses
-pub record Stopped (tables accesses : ℕ) (old new : Folder) {X : Type 0} (IsAs : Option (List File) → X → Type 0)
+-- so many tables, accesses or remotes
+pub record Stopped (known : Counts) (old new : Folder) {X : Type 0} (IsAs : Option (List File) → X → Type 0)
     (expected : X → Type 0) (reached : X → FileOf → Type 0) (s : Status) : Type 0 where
   pub keeps : new.holds ≡ old.holds
   pub counts : NeverFalls old.faults new.faults
@@ -44,4 +45,4 @@ pub record Stopped (tables accesses : ℕ) (old new : Folder) {X : Type 0} (IsAs
   pub agrees : IsAs old.holds given
   pub refused : MayRefuse (reached given) (expected given) s
   pub read : (f : FileOf) → s ≡ status.Read f → RoseOrFull old.faults new.faults
-  pub early : IsEarly tables accesses (IsSome old.holds) s
+  pub early : IsEarly known (IsSome old.holds) s

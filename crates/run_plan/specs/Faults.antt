@@ -1,11 +1,16 @@
--- The status that a fault of a script, of a table's file or of a statement ends a run with.
-use Rattle.std.specs.Prelude.{◌≡◌, ℕ, ⊤}
+-- The status that a fault of a script, of a table's file, of a statement or of its remotes' keys ends a run with.
+use Rattle.std.specs.Prelude.{◌≡◌, ◌≢◌, ℕ, ⊤}
 use Rattle.sq_parse.specs.declared.parser.ParseFault.{ParseFault}
 use Rattle.sq_parse.specs.declared.parser.ParseFault.TheVariants as parse
 use Rattle.table_csv.specs.declared.fault.TableFault.{TableFault}
 use Rattle.table_csv.specs.declared.fault.TableFault.TheVariants as table
 use Rattle.sq_bind.specs.declared.fault.BindFault.{BindFault}
 use Rattle.sq_bind.specs.declared.fault.BindFault.TheVariants as bind
+use Rattle.remote_lookup.specs.declared.remote.KeyFault.{KeyFault}
+use Rattle.remote_lookup.specs.declared.remote.KeyFault.TheVariants as key
+use Rattle.remote_lookup.specs.declared.remote.RemoteFault.{RemoteFault}
+use Rattle.remote_lookup.specs.declared.remote.RemoteFault.TheVariants as remote
+use Rattle.run_plan.specs.declared.status.FileOf.TheVariants as file
 use Rattle.run_plan.specs.declared.status.Status.{Status}
 use Rattle.run_plan.specs.declared.status.Status.TheVariants as status
 use Rattle.run_plan.specs.declared.status.LimitOf.TheVariants as limit
@@ -62,10 +67,27 @@ table_status number f = by_sort (table_sort f) (status.BadTable number f) (statu
 abbrev pub bind_status : ℕ → BindFault → Status
 bind_status statement f = by_sort (bind_sort f) (status.Bind statement f) (status.Limit (limit.Bind statement f))
 
--- a status holds no fault that is want of memory, and one that passes a limit stands in Limit alone
+-- the status of a refusal of a statement's keys
+abbrev pub remote_status : RemoteFault → Status
+remote_status (remote.Read at) = status.Read (file.Key at)
+remote_status (remote.TooLong at) = status.Limit (limit.File (file.Key at))
+remote_status (remote.BadFile at why) = status.BadKey at why
+remote_status (remote.TooManyKeys number) = status.Limit (limit.Keys number)
+remote_status (remote.TooManyRows number) = status.Limit (limit.Rows number)
+remote_status remote.Memory = status.Memory
+
+-- the fault of a key's file is no want of memory
+abbrev pub IsKeyFault : KeyFault → Type 0
+IsKeyFault (key.Table f) = f ≢ table.Memory
+IsKeyFault key.Columns = ⊤
+IsKeyFault (key.OtherKey rec) = ⊤
+
+-- a status holds no fault that is want of memory, and one that passes a limit stands in Limit alone, but for those of a
+-- key's file
 abbrev pub IsPlaced : Status → Type 0
 IsPlaced (status.Script f) = parse_sort f ≡ Plain
 IsPlaced (status.BadTable number f) = table_sort f ≡ Plain
+IsPlaced (status.BadKey at why) = IsKeyFault why
 IsPlaced (status.Bind statement f) = bind_sort f ≡ Plain
 IsPlaced (status.Limit (limit.Parse f)) = parse_sort f ≡ PastLimit
 IsPlaced (status.Limit (limit.Table number f)) = table_sort f ≡ PastLimit

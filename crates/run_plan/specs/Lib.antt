@@ -4,6 +4,8 @@ pub mod Steps
 pub mod Given
 pub mod Files
 pub mod Accesses
+pub mod Headings
+pub mod Open
 pub mod DemoScript
 pub mod Prepared
 pub mod Naming

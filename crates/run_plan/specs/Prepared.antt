@@ -25,8 +25,10 @@ use Rattle.run_plan.specs.DemoScript.{demo_script}
 use Rattle.run_plan.specs.Faults.{script_status, bind_status}
 use Rattle.run_plan.specs.Given.{Given}
 use Rattle.run_plan.specs.Files.{file_read, tables_read, catalogue_read}
+use Rattle.command_line.specs.declared.command.RemoteWord.{RemoteWord}
 use Rattle.run_plan.specs.Accesses.{accesses_read}
-use Rattle.run_plan.specs.Steps.{AndThen, ComesTo, or_fault}
+use Rattle.run_plan.specs.Headings.{Opened, opened_as, remotes_opened}
+use Rattle.run_plan.specs.Steps.{◌>>=◌, AndThen, ComesTo, or_fault}
 use Rattle.run_plan.specs.declared.plan.Plan.{Plan}
 use Rattle.run_plan.specs.declared.status.Status.{Status}
 use Rattle.run_plan.specs.declared.status.FileOf.{FileOf}
@@ -67,24 +69,38 @@ AreBoundTo scope number (s ∷ more) due =
     AndThen (IsBoundTo scope number s)
     (λ bound. AndThen (AreBoundTo scope (number + 1) more) (λ bounds. ComesTo (Ok (bound ∷ bounds)))) due
 
--- the plan of a script over a catalogue: the accesses' columns are found, and then all statements are bound
-abbrev pub IsBoundPlan : Predicates → List AccessWord → Script → NamedTables → Result Plan Status → Type 0
-IsBoundPlan p asked script catalogue due =
-    AndThen (ComesTo (accesses_read catalogue.tables asked))
-    (λ accesses. AndThen (AreBoundTo (over catalogue accesses p.calls) 1 script.statements)
-    (λ bounds. ComesTo (Ok record { statements = bounds; catalogue = catalogue }))) due
+-- a plan of these statements, over a catalogue and the remotes there
+abbrev pub plan_opened : Opened → List Bound → Plan
+plan_opened o bounds = record { statements = bounds; catalogue = o.catalogue; remotes = o.remotes }
 
--- what is to be run: the script is read first, and then the tables in order
+-- the plan of a script over a catalogue and its remotes: the accesses' columns are found, and then all statements are
+-- bound
+abbrev pub IsBoundPlan : Predicates → List AccessWord → Script → Opened → Result Plan Status → Type 0
+IsBoundPlan p asked script o due =
+    AndThen (ComesTo (accesses_read o.catalogue.tables asked o.remotes))
+    (λ accesses. AndThen (AreBoundTo (over o.catalogue accesses p.calls) 1 script.statements)
+    (λ bounds. ComesTo (Ok (plan_opened o bounds)))) due
+
+-- the remotes of these words behind the tables of a catalogue
+abbrev pub opened_over : List (Option (List ℕ)) → NamedTables → List RemoteWord → Result Opened Status
+opened_over founds catalogue remotes = remotes_opened 0 founds (opened_as catalogue []) remotes
+
+-- the tables in order, and then the headings of the remotes
+abbrev pub all_read : Given → Query → Result Opened Status
+all_read given q = do
+  catalogue ← catalogue_read given.tables q.tables
+  opened_over given.headings catalogue q.remotes
+
+-- what is to be run: the script is read first, then the tables, and then the headings of the remotes
 unfoldable pub IsPlan : Predicates → Query → Given → Result Plan Status → Type 0
 IsPlan p q given due =
     AndThen (IsScript given.script)
-    (λ script. AndThen (ComesTo (catalogue_read given.tables q.tables))
-    (λ catalogue. IsBoundPlan p q.accesses script catalogue)) due
+    (λ script. AndThen (ComesTo (all_read given q)) (λ o. IsBoundPlan p q.accesses script o)) due
 
 -- the demo, with so many rows a table: its queries over its tables
 unfoldable pub IsDemoPlan : Predicates → ℕ → ℕ → Result Plan Status → Type 0
 IsDemoPlan p rows seed due =
-    AndThen (IsSpelled demo_script) (λ script. IsBoundPlan p [] script (demo rows (seed % 1000))) due
+    AndThen (IsSpelled demo_script) (λ script. IsBoundPlan p [] script (opened_as (demo rows (seed % 1000)) [])) due
 
 -- the demo has a plan
 abbrev pub HasDemoPlan : Predicates → ℕ → ℕ → Type 0
@@ -94,9 +110,36 @@ HasDemoPlan p rows seed = (plan : Plan) × IsDemoPlan p rows seed (Ok plan)
 abbrev pub ReachedTable : List (Option (List ℕ)) → FileOf → Type 0
 ReachedTable founds file.Script = ⊥
 ReachedTable founds (file.Table number) = (number < length founds) × IsOk (tables_read 0 (take number founds))
+ReachedTable founds (file.Heading remote) = ⊥
+ReachedTable founds (file.Key at) = ⊥
 
--- nothing refuses before a file is loaded: the script is loaded first, then the tables in order
-abbrev pub Reached : Given → FileOf → Type 0
-Reached given file.Script = ⊤
-Reached given (file.Table number) =
-    ((script : Script) × IsScript given.script (Ok script)) × ReachedTable given.tables (file.Table number)
+-- whether a file is the heading of one of these remotes, and all headings before it are there and in form
+abbrev pub ReachedHeading : List (Option (List ℕ)) → Opened → List RemoteWord → FileOf → Type 0
+ReachedHeading founds start remotes file.Script = ⊥
+ReachedHeading founds start remotes (file.Table number) = ⊥
+ReachedHeading founds start remotes (file.Heading number) =
+    (number < length remotes) × IsOk (remotes_opened 0 founds start (take number remotes))
+ReachedHeading founds start remotes (file.Key at) = ⊥
+
+-- a heading behind the tables, all of which are there and in form
+abbrev pub ReachedBehind : Query → Given → FileOf → Type 0
+ReachedBehind q given f =
+    (catalogue : NamedTables) × ComesTo (catalogue_read given.tables q.tables) (Ok catalogue)
+    × ReachedHeading given.headings (opened_as catalogue []) q.remotes f
+
+-- nothing refuses a table or a heading before a file is loaded
+abbrev pub ReachedTables : Query → Given → FileOf → Type 0
+ReachedTables q given file.Script = ⊥
+ReachedTables q given (file.Table number) = ReachedTable given.tables (file.Table number)
+ReachedTables q given (file.Heading number) = ReachedBehind q given (file.Heading number)
+ReachedTables q given (file.Key at) = ⊥
+
+-- nothing refuses before a file is loaded: the script is loaded first, then the tables in order, and then the headings.
+-- No key's file is loaded for a plan
+abbrev pub Reached : Query → Given → FileOf → Type 0
+Reached q given file.Script = ⊤
+Reached q given (file.Table number) =
+    ((script : Script) × IsScript given.script (Ok script)) × ReachedTables q given (file.Table number)
+Reached q given (file.Heading number) =
+    ((script : Script) × IsScript given.script (Ok script)) × ReachedTables q given (file.Heading number)
+Reached q given (file.Key at) = ⊥

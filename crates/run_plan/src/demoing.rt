@@ -6,6 +6,9 @@ ghost use Rattle.run_base.specs.Runnable.{IsRunnable};
 ghost use Rattle.demo_tables.specs.Demo as tables;
 ghost use Rattle.run_plan.specs.DemoScript as demo_spec;
 ghost use Rattle.run_plan.specs.Doing.{Refuses, IsParsedScript};
+ghost use Rattle.run_plan.specs.Headings.{opened_as};
+ghost use Rattle.run_plan.specs.Naming.{zero_counts};
+ghost use Rattle.run_plan.specs.Open.{HasRemotes};
 ghost use Rattle.run_plan.specs.Prepared as spec;
 ghost use Rattle.run_plan.specs.Prepared.{predicates};
 
@@ -15,6 +18,7 @@ use crate::status::Status;
 use demo_tables::demo;
 use sq_parse::Script;
 use sq_value::Predicates;
+use sqlite_items::Items;
 use std::alloc::Global;
 
 // The three queries, as one script.
@@ -40,14 +44,18 @@ fn plan_demo<P: Predicates>(
     requires rows { IsDemo rows }
     requires parsed { IsParsedScript script.now }
     ensures ok { let p = predicates (P.number_of functions.now) (P.kinds_of functions.now) P.gives in
-        IfOk result (λ plan. spec.IsBoundPlan p [] script.now (tables.demo rows (seed % 1000)) (Ok plan)) }
+        IfOk result (λ plan.
+        spec.IsBoundPlan p [] script.now (opened_as (tables.demo rows (seed % 1000)) []) (Ok plan)) }
     ensures run { IfOk result (λ plan.
         All (IsRunnable (P.kinds_of functions.now) plan.catalogue.tables) plan.statements) }
+    ensures remotes { IfOk result HasRemotes }
     ensures refused { let p = predicates (P.number_of functions.now) (P.kinds_of functions.now) P.gives in
-        IfErr result (λ s. Refuses 0 0 (spec.IsBoundPlan p [] script.now (tables.demo rows (seed % 1000)) (Err s)) s) }
+        IfErr result (λ s.
+        Refuses zero_counts
+        (spec.IsBoundPlan p [] script.now (opened_as (tables.demo rows (seed % 1000)) []) (Err s)) s) }
 {
     match demo(alloc, rows, seed) {
-        Ok(catalogue) => bind_over(alloc, &[], script, catalogue, functions),
+        Ok(catalogue) => bind_over(alloc, &[], script, catalogue, Items::new(alloc), functions),
         Err(_) => Err(Status::Memory),
     }
 }
@@ -68,8 +76,9 @@ pub fn prepare_demo<P: Predicates>(
         IfOk result (λ plan. spec.IsDemoPlan p rows seed (Ok plan)) }
     ensures run { IfOk result (λ plan.
         All (IsRunnable (P.kinds_of functions.now) plan.catalogue.tables) plan.statements) }
+    ensures remotes { IfOk result HasRemotes }
     ensures refused { let p = predicates (P.number_of functions.now) (P.kinds_of functions.now) P.gives in
-        IfErr result (λ s. Refuses 0 0 (spec.IsDemoPlan p rows seed (Err s)) s) }
+        IfErr result (λ s. Refuses zero_counts (spec.IsDemoPlan p rows seed (Err s)) s) }
     ensures planned { let p = predicates (P.number_of functions.now) (P.kinds_of functions.now) P.gives in
         spec.HasDemoPlan p rows seed }
     ensures memory { IfErr result (λ s. s ≡ Status.Memory) }

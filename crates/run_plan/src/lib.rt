@@ -5,6 +5,7 @@
 mod accesses;
 mod demoing;
 mod loading;
+mod opening;
 mod plan;
 mod preparing;
 mod refusing;
@@ -13,4 +14,5 @@ mod status;
 pub use demoing::prepare_demo;
 pub use plan::Plan;
 pub use preparing::prepare;
+pub use refusing::remote_status;
 pub use status::{FileOf, LimitOf, Stage, Status};

@@ -6,11 +6,12 @@ ghost use Rattle.run_plan.specs.Doing.{Went, Stopped, Refuses};
 ghost use Rattle.run_plan.specs.Faults as faults;
 ghost use Rattle.run_plan.specs.Given.{IsFileGiven, AreFilesGiven};
 ghost use Rattle.run_plan.specs.Files.{file_read, table_read, catalogue_read};
-ghost use Rattle.run_plan.specs.Naming.{tables_to};
+ghost use Rattle.run_plan.specs.Naming.{counts, counts_to};
 ghost use Rattle.run_plan.specs.Loaded as loaded;
 ghost use Rattle.run_plan.specs.Loaded.{AddsTable};
 ghost use Rattle.run_plan.specs.Prepared.{ReachedTable};
 ghost use Rattle.run_base.specs.Seen.{folder_seen};
+ghost use Rattle.run_plan.specs.Stage.{Before, phase_of_file};
 ghost use Rattle.run_plan.specs.Steps.{ComesTo, or_fault};
 ghost use Rattle.run_plan.specs.declared.status.FileOf.TheVariants as file_of;
 
@@ -37,7 +38,7 @@ fn load_status(fault: LoadFault, file: FileOf) -> Status
     }
 }
 
-/// Loads a file of at most 67,108,864 bytes. One more is asked for.
+/// Loads a file of at most 67,108,864 bytes, which isn't a key's. One more is asked for.
 ///
 /// # Errors
 /// `NotFound`, `Read`, or `Limit` of the file; or `Memory`.
@@ -47,13 +48,14 @@ pub fn load<F: Folder>(
     name: &str,
     file: FileOf,
 ) -> Result<Vec<u8>, Status>
+    requires { phase_of_file file ≡ Before }
     ensures went { IfOk result (λ bytes.
         Went (folder_seen (F.holds folder.old) (F.faults folder.old))
         (folder_seen (F.holds folder.new) (F.faults folder.new))
         (IsFileGiven name.now) (λ found. ComesTo (file_read file found) (Ok bytes.items))) }
     ensures short { IfOk result (λ bytes. length bytes.items ≤ 67108864) }
     ensures stopped { IfErr result (λ s.
-        Stopped (tables_to file) 0 (folder_seen (F.holds folder.old) (F.faults folder.old))
+        Stopped (counts_to file) (folder_seen (F.holds folder.old) (F.faults folder.old))
         (folder_seen (F.holds folder.new) (F.faults folder.new))
         (IsFileGiven name.now) (λ found. ComesTo (file_read file found) (Err s)) (λ found f. f ≡ file) s) }
 {
@@ -74,7 +76,8 @@ pub fn load<F: Folder>(
 fn table_of(alloc: Global, bytes: &[u8], number: u32) -> Result<Table, Status>
     ensures ok { IfOk result (λ table. table_of_bytes bytes.now ≡ Ok table) }
     ensures refused { IfErr result (λ s.
-        Refuses (number + 1) 0 (ComesTo (or_fault (faults.table_status number) (table_of_bytes bytes.now)) (Err s)) s) }
+        Refuses (counts (number + 1) 0 0)
+        (ComesTo (or_fault (faults.table_status number) (table_of_bytes bytes.now)) (Err s)) s) }
 {
     match read_table(alloc, bytes) {
         Ok(table) => Ok(table),
@@ -94,7 +97,7 @@ fn load_table<F: Folder>(
         (folder_seen (F.holds folder.new) (F.faults folder.new))
         (IsFileGiven name.now) (λ found. ComesTo (table_read number found) (Ok table))) }
     ensures stopped { IfErr result (λ s.
-        Stopped (number + 1) 0 (folder_seen (F.holds folder.old) (F.faults folder.old))
+        Stopped (counts (number + 1) 0 0) (folder_seen (F.holds folder.old) (F.faults folder.old))
         (folder_seen (F.holds folder.new) (F.faults folder.new))
         (IsFileGiven name.now) (λ found. ComesTo (table_read number found) (Err s))
         (λ found f. f ≡ file_of.Table number) s) }
@@ -117,7 +120,7 @@ fn push_table<F: Folder>(
         (folder_seen (F.holds folder.new) (F.faults folder.new))
         number word.now catalogue.old catalogue.new) }
     ensures stopped { IfErr result (λ s.
-        Stopped (number + 1) 0 (folder_seen (F.holds folder.old) (F.faults folder.old))
+        Stopped (counts (number + 1) 0 0) (folder_seen (F.holds folder.old) (F.faults folder.old))
         (folder_seen (F.holds folder.new) (F.faults folder.new))
         (IsFileGiven word.now.file) (λ found. ComesTo (table_read number found) (Err s))
         (λ found f. f ≡ file_of.Table number) s) }
@@ -145,7 +148,7 @@ pub fn load_tables<F: Folder>(
         (AreFilesGiven words.now) (λ founds. ComesTo (catalogue_read founds words.now) (Ok catalogue))) }
     ensures count { IfOk result (λ catalogue. length catalogue.tables ≡ length words.now) }
     ensures stopped { IfErr result (λ s.
-        Stopped (length words.now) 0 (folder_seen (F.holds folder.old) (F.faults folder.old))
+        Stopped (counts (length words.now) 0 0) (folder_seen (F.holds folder.old) (F.faults folder.old))
         (folder_seen (F.holds folder.new) (F.faults folder.new))
         (AreFilesGiven words.now) (λ founds. ComesTo (catalogue_read founds words.now) (Err s)) ReachedTable s) }
 {

@@ -3,7 +3,8 @@
 ghost use Rattle.std.specs.Prelude.{◌≡◌};
 ghost use Rattle.run_plan.specs.Faults as spec;
 
-use crate::status::{BindFault, LimitOf, ParseFault, Status, TableFault};
+use crate::status::{BindFault, FileOf, LimitOf, ParseFault, Status, TableFault};
+use remote_lookup::RemoteFault;
 
 /// The status of a script's fault.
 pub fn script_status(fault: ParseFault) -> Status
@@ -43,5 +44,29 @@ pub fn bind_status(statement: u32, fault: BindFault) -> Status
             of: LimitOf::Bind { statement, fault },
         },
         _ => Status::Bind { statement, fault },
+    }
+}
+
+/// The status of a refusal of the needed keys of a statement.
+pub fn remote_status(fault: RemoteFault) -> Status
+    ensures { result ≡ spec.remote_status fault }
+{
+    match fault {
+        RemoteFault::Read { at } => Status::Read {
+            file: FileOf::Key(at),
+        },
+        RemoteFault::TooLong { at } => Status::Limit {
+            of: LimitOf::File {
+                file: FileOf::Key(at),
+            },
+        },
+        RemoteFault::BadFile { at, why } => Status::BadKey { at, why },
+        RemoteFault::TooManyKeys { remote } => Status::Limit {
+            of: LimitOf::Keys { remote },
+        },
+        RemoteFault::TooManyRows { remote } => Status::Limit {
+            of: LimitOf::Rows { remote },
+        },
+        RemoteFault::Memory => Status::Memory,
     }
 }

@@ -3,18 +3,22 @@
 ghost use Rattle.std.specs.Prelude.{◌≡◌};
 ghost use Rattle.run_plan.specs.Stage.{stage_of, code_of};
 
+pub use remote_lookup::{KeyFault, RemoteKey};
 pub use sq_bind::BindFault;
 pub use sq_parse::ParseFault;
 pub use table_csv::TableFault;
 
-/// A file that the words name: the script, or a table, counted from 0 in the order of the words.
+/// A file that the words name: the script; a table, counted from 0 in the order of the words; the
+/// heading of a remote, counted from 0; or the file of a remote's key.
 #[derive(Clone, Copy, Debug, PartialEq, Eq)]
 pub enum FileOf {
     Script,
     Table(u32),
+    Heading(u32),
+    Key(RemoteKey),
 }
 
-/// What passed a limit. Tables count from 0, statements from 1.
+/// What passed a limit. Tables and remotes count from 0, statements from 1.
 #[derive(Clone, Copy, Debug, PartialEq, Eq)]
 pub enum LimitOf {
     /// A file has more than 67,108,864 bytes.
@@ -25,10 +29,14 @@ pub enum LimitOf {
     Table { table: u32, fault: TableFault },
     /// A statement has too many aliases, conjuncts or terms.
     Bind { statement: u32, fault: BindFault },
+    /// A statement needs more than 10,000 keys of a remote.
+    Keys { remote: u32 },
+    /// The needed keys of a remote have more than 4,000,000 rows.
+    Rows { remote: u32 },
 }
 
-/// How a run ended. Tables count from 0, statements and accesses from 1. No fault is `Memory`, and
-/// one that passes a limit stands in `Limit` alone.
+/// How a run ended. Tables and remotes count from 0, statements and accesses from 1. No fault is
+/// `Memory`, and one that passes a limit stands in `Limit` alone, but for those of a remote's files.
 #[derive(Clone, Copy, Debug, PartialEq, Eq)]
 pub enum Status {
     /// Each answer was written, whole.
@@ -41,6 +49,11 @@ pub enum Status {
     Bind { statement: u32, fault: BindFault },
     /// A file isn't a table.
     BadTable { table: u32, fault: TableFault },
+    /// The heading file of a remote isn't a table, has a row, or has no INTEGER column of the name
+    /// that the remote is looked up by.
+    BadHeading { remote: u32 },
+    /// The file of a needed key isn't a table of its remote, or has a record of another key.
+    BadKey { at: RemoteKey, why: KeyFault },
     /// An access names a column that its table lacks.
     NoColumn { access: u32 },
     /// There is no file of that name.
@@ -105,7 +118,10 @@ impl Status {
             Status::Done => Stage::Run,
             Status::Usage => Stage::Words,
             Status::Script { .. } | Status::Bind { .. } => Stage::Script,
-            Status::BadTable { .. } | Status::NoColumn { .. } => Stage::Tables,
+            Status::BadTable { .. }
+            | Status::BadHeading { .. }
+            | Status::BadKey { .. }
+            | Status::NoColumn { .. } => Stage::Tables,
             Status::NotFound { .. } | Status::Read { .. } => Stage::Files,
             Status::Write => Stage::Output,
             Status::Limit { .. } => Stage::Limits,

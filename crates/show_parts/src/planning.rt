@@ -59,8 +59,9 @@ pub(crate) fn plan_of<F: Folder, N: Sink, P: Predicates>(
     match prepare(alloc, query, folder, functions) {
         Ok(plan) => Ok(plan),
         Err(status) => {
-            let names = query.tables.as_slice();
-            Err(Refusal::Noted(put_note(alloc, names, status, notes)))
+            let tables = query.tables.as_slice();
+            let remotes = query.remotes.as_slice();
+            Err(Refusal::Noted(put_note(alloc, tables, remotes, status, notes)))
         }
     }
 }

@@ -12,7 +12,7 @@ returns-in_err-bytes-clause-stopped g c =
     let r = c.in_err-bytes.ensures.stopped in
     through c.from_residual.result c.in_err-bytes.field-0.0 _ c.from_residual.ensures.1
     (stopped_into _ _ _ _ _ _ _ _ _ c.in_err-bytes.field-0.0 refl refl r r.given r.agrees
-    (λ e. table_read-unread c.args.number r.given c.in_err-bytes.field-0.0 e) (λ f k. k) (omega arith) (omega arith))
+    (λ e. table_read-unread c.args.number r.given c.in_err-bytes.field-0.0 e) (λ f k. k) (record { tables = omega arith; accesses = omega arith; remotes = omega arith }))
 
 pub returns-clause-went : goal.returns-clause-went
 returns-clause-went g c =
@@ -29,5 +29,5 @@ returns-clause-stopped g c =
     (λ s r. stopped_pure _ _ _ _ _ _ _ s w
     (λ due. table_read-due c.args.number w.given c.in_ok-bytes.bytes.items s w.tells
     (subst (λ (b : List ℕ). ComesTo (or_fault (table_status c.args.number) (table_of_bytes b)) (Err s)) c.as_slice.ensures.value due)) r
-    (omega arith) (omega arith))
+    (record { tables = omega arith; accesses = omega arith; remotes = omega arith }))
     c.table_of.ensures.refused

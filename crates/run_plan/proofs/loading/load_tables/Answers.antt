@@ -2,9 +2,10 @@ use Rattle.std.proofs.Common.{◌+◌, List, [], ◌∷◌, ◌++◌, length, ta
 use Rattle.std.proofs.lemmas.List.{take_all, length-append}
 use Rattle.catalogue.specs.Named.{NamedTables}
 use Rattle.command_line.specs.declared.command.TableWord.{TableWord}
-use Rattle.run_plan.specs.Given.{AreFilesGiven}
+use Rattle.run_plan.specs.Given.{AreFilesGiven, table_file}
 use Rattle.run_plan.proofs.DoingLemmas.{through, went_into, stopped_into}
-use Rattle.run_plan.proofs.FilesLemmas.{IsReadTo, found_before, found_none, found_count, found_more, found_through, unread, read_none, read_more, read_refused, read_whole, next_reached}
+use Rattle.run_plan.proofs.FilesLemmas.{IsReadTo, read_none, read_more, read_refused, read_whole, next_reached}
+use Rattle.run_plan.proofs.GivenLemmas.{found_before, found_none, found_count, found_more, found_through, unread}
 use Rattle.run_plan.proofs.loading.load_tables.Goals as goal
 
 pub loop-index-init : goal.loop-index-init
@@ -14,7 +15,7 @@ loop-index-init g c = record {
     keeps = refl;
     kept = refl;
     given = [];
-    agrees = found_none _;
+    agrees = found_none table_file _;
     tells = read_none c.new-catalogue.result c.new-catalogue.ensures;
   };
 }
@@ -27,15 +28,15 @@ returns-in_err-push_table-clause-stopped g c =
     let words = c.args.words.now in
     let i = c.loop-index.index in
     let word = c.index-words-index.result in
-    let long = found_count held words i w.given (omega (arith, c.loop-index-test.true)) w.agrees in
+    let long = found_count table_file held words i w.given (omega (arith, c.loop-index-test.true)) w.agrees in
     through c.from_residual.result c.in_err-push_table.field-0.0 _ c.from_residual.ensures.1
-    (stopped_into _ _ _ _ _ _ _ _ _ c.in_err-push_table.field-0.0 w.keeps w.kept r (w.given ++ r.given ∷ unread held (drop (i + 1) words))
-    (found_through held words i word word w.given r.given c.loop-index-test.true c.index-words-index.is w.agrees
+    (stopped_into _ _ _ _ _ _ _ _ _ c.in_err-push_table.field-0.0 w.keeps w.kept r (w.given ++ r.given ∷ unread table_file held (drop (i + 1) words))
+    (found_through table_file held words i word word w.given r.given c.loop-index-test.true c.index-words-index.is w.agrees
     (found_before word.file held _ r.given w.keeps r.agrees))
-    (λ e. read_refused w.given (unread held (drop (i + 1) words)) r.given words i (take i words) c.loop-index.catalogue
+    (λ e. read_refused w.given (unread table_file held (drop (i + 1) words)) r.given words i (take i words) c.loop-index.catalogue
     c.in_err-push_table.field-0.0 long w.tells e)
-    (λ f k. next_reached w.given (unread held (drop (i + 1) words)) r.given i (take i words) c.loop-index.catalogue long w.tells f k)
-    (omega (arith, c.loop-index-test.true)) (omega arith))
+    (λ f k. next_reached w.given (unread table_file held (drop (i + 1) words)) r.given i (take i words) c.loop-index.catalogue long w.tells f k)
+    (record { tables = omega (arith, c.loop-index-test.true); accesses = omega arith; remotes = omega arith }))
 
 pub loop-index-preserved : goal.loop-index-preserved
 loop-index-preserved g c =
@@ -45,11 +46,11 @@ loop-index-preserved g c =
     let words = c.args.words.now in
     let i = c.loop-index.index in
     let word = c.index-words-index.result in
-    let long = found_count held words i w.given (omega (arith, c.loop-index-test.true)) w.agrees in
+    let long = found_count table_file held words i w.given (omega (arith, c.loop-index-test.true)) w.agrees in
     record {
       count = omega (arith, ap (λ (n : NamedTables). length n.tables) a.added, length-append c.loop-index.catalogue.tables (a.table ∷ []), c.loop-index.invariant.count);
       went = went_into _ _ _ _ _ _ _ w.keeps w.kept a.went (w.given ++ a.went.given ∷ [])
-          (found_more held words i word word w.given a.went.given c.loop-index-test.true c.index-words-index.is w.agrees
+          (found_more table_file held words i word word w.given a.went.given c.loop-index-test.true c.index-words-index.is w.agrees
           (found_before word.file held _ a.went.given w.keeps a.went.agrees))
           (λ e. read_more w.given a.went.given words i word word c.loop-index.catalogue _ a.table c.loop-index-test.true long c.index-words-index.is a.added w.tells e);
     }

@@ -10,7 +10,7 @@ returns-in_err-table-clause-stopped g c =
     through c.from_residual.result c.in_err-table.field-0.0 _ c.from_residual.ensures.1
     (stopped_into _ _ _ _ _ _ _ _ _ c.in_err-table.field-0.0 refl refl r r.given
     (subst (λ (n : List ℕ). IsFileGiven n (g.F.Folder.holds c.args.folder.now) r.given) c.as_str.ensures r.agrees) (λ e. e) (λ f k. k)
-    (omega arith) (omega arith))
+    (record { tables = omega arith; accesses = omega arith; remotes = omega arith }))
 
 pub returns-in-Ok-clause-added : goal.returns-in-Ok-clause-added
 returns-in-Ok-clause-added g c =

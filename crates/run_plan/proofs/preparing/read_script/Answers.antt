@@ -9,7 +9,7 @@ returns-in_err-text-clause-stopped g c =
     let r = c.in_err-text.ensures.stopped in
     through c.from_residual.result c.in_err-text.field-0.0 _ c.from_residual.ensures.1
     (stopped_into _ _ _ _ _ _ _ _ _ c.in_err-text.field-0.0 refl refl r r.given r.agrees (λ e. (Err c.in_err-text.field-0.0, e, refl)) (λ f k. k)
-    (omega arith) (omega arith))
+    (record { tables = omega arith; accesses = omega arith; remotes = omega arith }))
 
 pub parse_script-requires : goal.parse_script-requires
 parse_script-requires g c = omega (arith, ap (length {A = ℕ}) c.as_slice.ensures.value, c.in_ok-text.ensures.short)
@@ -28,5 +28,5 @@ returns-clause-stopped g c =
     IfErr-weaker c.parse_script.result _ _
     (λ s r. stopped_pure _ _ _ _ _ _ _ s w
     (λ due. (Ok c.in_ok-text.text.items, w.tells, subst (λ (t : List ℕ). IsSpelled t (Err s)) c.as_slice.ensures.value due)) r
-    (omega arith) (omega arith))
+    (record { tables = omega arith; accesses = omega arith; remotes = omega arith }))
     c.parse_script.ensures.refused
