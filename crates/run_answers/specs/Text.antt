@@ -1,5 +1,5 @@
 -- The text of the answers of statements, one behind another.
-use Rattle.std.specs.Prelude.{ℕ, ◌+◌, List, [], ◌∷◌, ◌++◌, Option, Some, None}
+use Rattle.std.specs.Prelude.{ℕ, ◌+◌, ◌==◌, List, [], ◌∷◌, ◌++◌, Option, Some, None, if◌then◌else◌}
 use Rattle.std.specs.List.{flat_map}
 use Rattle.sq_value.specs.declared.value.Value.{Value}
 use Rattle.sq_value.specs.declared.value.Truth.{Truth}
@@ -45,6 +45,10 @@ item_text gives item = text_by gives item item.bound.shape
 -- the text of an answer behind others, with one empty line before it
 abbrev pub behind_line : (ℕ → Value → Value → Truth) → Item → List ℕ
 behind_line gives item = 10 ∷ item_text gives item
+
+-- the text of the answer of the statement with this number, which counts from 1: the first has no line before it
+abbrev pub numbered_text : (ℕ → Value → Value → Truth) → ℕ → Item → List ℕ
+numbered_text gives number item = if number == 1 then item_text gives item else behind_line gives item
 
 -- the texts of all answers, in order, with one empty line between two
 unfoldable pub text_of : (ℕ → Value → Value → Truth) → List Item → List ℕ

@@ -13,7 +13,7 @@ mod tallying;
 mod together;
 mod writing;
 
-pub use answering::put_answers;
+pub use answering::{put_answers, put_numbered};
 pub use counting::put_summary;
 pub use engine::Engine;
 pub use settings::Settings;
