@@ -1,31 +1,21 @@
 -- What words ask for, by what the command line reads of them.
-use Rattle.std.proofs.Common.{◌≡◌, ◌∙◌, ℕ, Bool, cond, true, false, List, Option, Some, None, ap, sym}
-use Rattle.std.specs.Prelude.{option_map, option_and_then}
+use Rattle.std.proofs.Common.{◌≡◌, ◌∙◌, ℕ, true, List, Option, Some, None, ap, sym}
+use Rattle.std.specs.Prelude.{option_map}
 use Rattle.command_line.specs.Form.{command}
 use Rattle.command_line.specs.declared.command.Command.{Command}
 use Rattle.command_line.specs.Within.{HasScansAlone, IsTask, IsWithin}
 use Rattle.run_answers.specs.Settings.{AreSettings}
 use Rattle.std.specs.Option.{option_map_or}
-use Rattle.eddyql.specs.Asked.{request_of, is_run, if_run, asked, loads_none, are_fileless}
+use Rattle.eddyql.specs.Asked.{request_of, asked, loads_none, are_fileless}
 use Rattle.eddyql.specs.declared.asking.Request.{Request}
 
-pub asked_of : (words : List (List ℕ)) (c : Command) (r : Request) → command words ≡ Some c → r ≡ request_of c → is_run r.task ≡ true
-    → asked words ≡ Some r
+pub asked_of : (words : List (List ℕ)) (c : Command) (r : Request) → command words ≡ Some c → r ≡ request_of c → asked words ≡ Some r
 unfolding asked
-asked_of words c r e f run =
-    ap (λ (o : Option Command). option_and_then if_run (option_map request_of o)) e ∙ ap if_run (sym f)
-    ∙ ap (λ (b : Bool). cond b (Some r) None) run
-
-pub asked_unrun : (words : List (List ℕ)) (c : Command) (r : Request) → command words ≡ Some c → r ≡ request_of c → is_run r.task ≡ false
-    → asked words ≡ None
-unfolding asked
-asked_unrun words c r e f run =
-    ap (λ (o : Option Command). option_and_then if_run (option_map request_of o)) e ∙ ap if_run (sym f)
-    ∙ ap (λ (b : Bool). cond b (Some r) None) run
+asked_of words c r e f = ap (λ (o : Option Command). option_map request_of o) e ∙ ap (λ (x : Request). let o : Option Request = Some x in o) (sym f)
 
 pub asked_none : (words : List (List ℕ)) → command words ≡ None → asked words ≡ None
 unfolding asked
-asked_none words e = ap (λ (o : Option Command). option_and_then if_run (option_map request_of o)) e
+asked_none words e = ap (λ (o : Option Command). option_map request_of o) e
 
 -- what is asked for is within what the words may ask for
 pub request_within : (c : Command) → IsWithin c → IsTask (request_of c).task × AreSettings (request_of c).settings

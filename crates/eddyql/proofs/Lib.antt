@@ -2,9 +2,11 @@ pub mod AskedLemmas
 pub mod StageLemmas
 pub mod TaskLemmas
 pub mod OneOutcome
+pub mod RemoteLemmas
 pub mod DemoLemmas
 pub mod PlanLemmas
 pub mod ShareLemmas
 pub mod EndedLemmas
 pub mod RunLemmas
+pub mod RanLemmas
 pub mod ShippingLemmas

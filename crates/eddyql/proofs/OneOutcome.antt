@@ -1,6 +1,6 @@
 -- Words over what is given have one outcome.
 use Rattle.std.proofs.Common.{◌≡◌, ℕ, ◌+◌, ◌%◌, ◌<◌, Bool, true, false, List, [], ◌∷◌, length, get_or, Option, Some, None, Result, Ok, Err, refl, sym, ◌∙◌, ap, subst, ◌⊎◌, inl, inr}
-use Rattle.std.specs.Prelude.{All}
+use Rattle.std.specs.Prelude.{All, option_map}
 use Rattle.std.proofs.lemmas.List.Elements.{All-head, All-tail, Contains-get_or}
 use Rattle.sq_parse.specs.Fault.{ReadsAs}
 use Rattle.sq_parse.specs.Shaped.{is_shaped}
@@ -9,7 +9,6 @@ use Rattle.sq_parse.proofs.OneReading.{one_reading}
 use Rattle.sq_parse.specs.declared.tree.Script.{Script}
 use Rattle.sq_parse.specs.declared.tree.Statement.{Statement}
 use Rattle.sq_expr.specs.declared.block.Block.{Block}
-use Rattle.catalogue.specs.Named.{NamedTables}
 use Rattle.sq_bind.specs.Answer as binding
 use Rattle.sq_bind.specs.Given.{over}
 use Rattle.sq_bind.specs.Statement.{Scope}
@@ -22,31 +21,49 @@ use Rattle.command_line.specs.declared.command.Query.{Query}
 use Rattle.command_line.specs.declared.command.Task.{Task}
 use Rattle.command_line.specs.declared.command.Task.TheVariants as task
 use Rattle.demo_tables.specs.Demo.{demo}
+use Rattle.remote_lookup.specs.declared.remote.Remote.{Remote}
+use Rattle.remote_answers.specs.Statements.{Course}
+use Rattle.remote_answers.proofs.CourseLemmas.{one_course, some_course}
 use Rattle.run_plan.specs.DemoScript.{demo_script}
 use Rattle.run_plan.specs.Accesses.{accesses_read}
 use Rattle.run_plan.specs.Given.{Given}
-use Rattle.run_plan.specs.Faults.{script_status, bind_status}
-use Rattle.run_plan.specs.Files.{file_read, catalogue_read}
-use Rattle.run_plan.specs.Prepared.{IsSpelled, IsScript, IsBoundTo, AreBoundTo, IsBoundPlan, IsPlan, IsDemoPlan, Predicates}
+use Rattle.run_plan.specs.Faults.{bind_status, remote_status, script_status}
+use Rattle.run_plan.specs.Files.{file_read}
+use Rattle.run_plan.specs.Headings.{Opened, opened_as}
+use Rattle.run_plan.specs.Prepared.{IsSpelled, IsScript, IsBoundTo, AreBoundTo, IsBoundPlan, IsPlan, IsDemoPlan, Predicates, plan_opened, all_read}
 use Rattle.run_plan.specs.Steps.{Behind, AndThen, ComesTo, or_refuse, or_fault}
+use Rattle.run_plan.specs.declared.plan.Plan.{Plan}
 use Rattle.run_plan.specs.declared.status.FileOf.TheVariants as file
 use Rattle.run_plan.specs.declared.status.Status.{Status}
 use Rattle.run_plan.specs.declared.status.Status.TheVariants as status
 use Rattle.run_plan.proofs.OnePlan.{IsOne, one_given, one_then, one_plan, one_demo}
 use Rattle.eddyql.specs.Asked.{asked}
-use Rattle.eddyql.specs.Outcome.{Due, IsTaskPlan, IsRequested, IsPlanned, IsOutcome, OneOutcome, due_by}
+use Rattle.eddyql.specs.Outcome.{Due, IsDueBy, IsDueOver, IsTaskPlan, IsRequested, IsPlanned, IsOutcome, OneOutcome, RunGiven, due_as, items_of, over_of}
 
 one_requested : (p : Predicates) (t : Task) (seed : ℕ) (given : Given) → IsOne (IsTaskPlan p t seed given)
 one_requested p (task.Query q) seed given = one_plan p q given
 one_requested p (task.Demo rows) seed given = one_demo p rows seed
 
-one_planned : (p : Predicates) (words : List (List ℕ)) (given : Given) → IsOne (IsPlanned p words given)
+one_planned : (p : Predicates) (words : List (List ℕ)) (given : RunGiven) → IsOne (IsPlanned p words given)
 one_planned p words given =
-    one_then (ComesTo (or_refuse status.Usage (asked words))) (λ a. IsRequested p a given) (one_given (or_refuse status.Usage (asked words)))
-    (λ a. one_requested p a.task a.settings.seed given)
+    one_then (ComesTo (or_refuse status.Usage (asked words))) (λ a. IsRequested p a given.files) (one_given (or_refuse status.Usage (asked words)))
+    (λ a. one_requested p a.task a.settings.seed given.files)
 
-pub same_outcome : (p : Predicates) (words : List (List ℕ)) (given : Given) (x y : Due) → IsOutcome p words given x → IsOutcome p words given y → x ≡ y
-same_outcome p words given x y h k = h.2 ∙ ap due_by (one_planned p words given h.0 k.0 h.1 k.1) ∙ sym k.2
+-- what is due by a plan is one thing
+one_over : (p : Predicates) (given : RunGiven) (plan : Plan) (remotes : List Remote) (x y : Due) → IsDueOver p given plan remotes x
+    → IsDueOver p given plan remotes y → x ≡ y
+one_over p given plan [] x y h k = h ∙ sym k
+one_over p given plan (r ∷ rs) x y h k =
+    h.2 ∙ ap (λ (c : Course). due_as c.items (option_map remote_status c.refusal)) (one_course (over_of p given plan) 1 plan.statements h.0 k.0 h.1 k.1)
+    ∙ sym k.2
+
+one_due : (p : Predicates) (given : RunGiven) (plan : Result Plan Status) (x y : Due) → IsDueBy p given plan x → IsDueBy p given plan y → x ≡ y
+one_due p given (Ok plan) x y h k = one_over p given plan plan.remotes x y h k
+one_due p given (Err s) x y h k = h ∙ sym k
+
+pub same_outcome : (p : Predicates) (words : List (List ℕ)) (given : RunGiven) (x y : Due) → IsOutcome p words given x → IsOutcome p words given y → x ≡ y
+same_outcome p words given x y h k =
+    one_due p given k.0 x y (subst (λ (plan : Result Plan Status). IsDueBy p given plan x) (one_planned p words given h.0 k.0 h.1 k.1) h.2) k.2
 
 -- ---- there is one
 
@@ -119,40 +136,50 @@ sources_of found script h = by h.0 h.2
     by (Err s) k = absurd cc
     by (Ok text) k = sources_read text script k.0 k.1 k.2
 
-some_bound_plan : (p : Predicates) (asks : List AccessWord) (script : Script) (catalogue : NamedTables) → All HasSource script.statements → Comes (IsBoundPlan p asks script catalogue)
-some_bound_plan p asks script catalogue all =
-    some_then (ComesTo (accesses_read catalogue.tables asks))
-    (λ accesses. AndThen (AreBoundTo (over catalogue accesses p.calls) 1 script.statements)
-    (λ blocks. ComesTo (Ok record { statements = blocks; catalogue = catalogue })))
-    (some_given (accesses_read catalogue.tables asks))
-    (λ accesses h. some_then (AreBoundTo (over catalogue accesses p.calls) 1 script.statements)
-    (λ blocks. ComesTo (Ok record { statements = blocks; catalogue = catalogue }))
-    (some_blocks (over catalogue accesses p.calls) 1 script.statements all) (λ blocks k. some_given (Ok record { statements = blocks; catalogue = catalogue })))
+some_bound_plan : (p : Predicates) (asks : List AccessWord) (script : Script) (o : Opened) → All HasSource script.statements → Comes (IsBoundPlan p asks script o)
+some_bound_plan p asks script o all =
+    some_then (ComesTo (accesses_read o.catalogue.tables asks o.remotes))
+    (λ accesses. AndThen (AreBoundTo (over o.catalogue accesses p.calls) 1 script.statements) (λ blocks. ComesTo (Ok (plan_opened o blocks))))
+    (some_given (accesses_read o.catalogue.tables asks o.remotes))
+    (λ accesses h. some_then (AreBoundTo (over o.catalogue accesses p.calls) 1 script.statements) (λ blocks. ComesTo (Ok (plan_opened o blocks)))
+    (some_blocks (over o.catalogue accesses p.calls) 1 script.statements all) (λ blocks k. some_given (Ok (plan_opened o blocks))))
 
 some_plan : (p : Predicates) (q : Query) (given : Given) → Comes (IsPlan p q given)
 unfolding IsPlan
 some_plan p q given =
-    some_then (IsScript given.script) (λ script. AndThen (ComesTo (catalogue_read given.tables q.tables)) (λ catalogue. IsBoundPlan p q.accesses script catalogue))
+    some_then (IsScript given.script) (λ script. AndThen (ComesTo (all_read given q)) (λ o. IsBoundPlan p q.accesses script o))
     (some_script given.script)
-    (λ script h. some_then (ComesTo (catalogue_read given.tables q.tables)) (λ catalogue. IsBoundPlan p q.accesses script catalogue)
-    (some_given (catalogue_read given.tables q.tables)) (λ catalogue k. some_bound_plan p q.accesses script catalogue (sources_of given.script script h)))
+    (λ script h. some_then (ComesTo (all_read given q)) (λ o. IsBoundPlan p q.accesses script o)
+    (some_given (all_read given q)) (λ o k. some_bound_plan p q.accesses script o (sources_of given.script script h)))
 
 some_demo : (p : Predicates) (rows seed : ℕ) → Comes (IsDemoPlan p rows seed)
 unfolding IsDemoPlan
 some_demo p rows seed =
-    some_then (IsSpelled demo_script) (λ script. IsBoundPlan p [] script (demo rows (seed % 1000))) (some_spelled demo_script)
-    (λ script h. some_bound_plan p [] script (demo rows (seed % 1000)) (sources_read demo_script script h.0 h.1 h.2))
+    some_then (IsSpelled demo_script) (λ script. IsBoundPlan p [] script (opened_as (demo rows (seed % 1000)) [])) (some_spelled demo_script)
+    (λ script h. some_bound_plan p [] script (opened_as (demo rows (seed % 1000)) []) (sources_read demo_script script h.0 h.1 h.2))
 
 some_requested : (p : Predicates) (t : Task) (seed : ℕ) (given : Given) → Comes (IsTaskPlan p t seed given)
 some_requested p (task.Query q) seed given = some_plan p q given
 some_requested p (task.Demo rows) seed given = some_demo p rows seed
 
-some_outcome : (p : Predicates) (words : List (List ℕ)) (given : Given) → (due : Due) × IsOutcome p words given due
+-- something is due by a plan
+some_over : (p : Predicates) (given : RunGiven) (plan : Plan) (remotes : List Remote) → (due : Due) × IsDueOver p given plan remotes due
+some_over p given plan [] = (due_as (items_of plan) None, refl)
+some_over p given plan (r ∷ rs) =
+    let c = some_course (over_of p given plan) 1 plan.statements in
+    (due_as c.0.items (option_map remote_status c.0.refusal), (c.0, c.1, refl))
+
+some_due : (p : Predicates) (given : RunGiven) (plan : Result Plan Status) → (due : Due) × IsDueBy p given plan due
+some_due p given (Ok plan) = some_over p given plan plan.remotes
+some_due p given (Err s) = (due_as [] (Some s), refl)
+
+some_outcome : (p : Predicates) (words : List (List ℕ)) (given : RunGiven) → (due : Due) × IsOutcome p words given due
 some_outcome p words given =
     let planned : Comes (IsPlanned p words given) =
-    some_then (ComesTo (or_refuse status.Usage (asked words))) (λ a. IsRequested p a given) (some_given (or_refuse status.Usage (asked words)))
-    (λ a h. some_requested p a.task a.settings.seed given) in
-    (due_by planned.0, (planned.0, planned.1, refl))
+    some_then (ComesTo (or_refuse status.Usage (asked words))) (λ a. IsRequested p a given.files) (some_given (or_refuse status.Usage (asked words)))
+    (λ a h. some_requested p a.task a.settings.seed given.files) in
+    let due = some_due p given planned.0 in
+    (due.0, (planned.0, planned.1, due.1))
 
 pub one_outcome : OneOutcome
 one_outcome p words given =

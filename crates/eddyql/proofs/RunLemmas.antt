@@ -3,24 +3,23 @@ use Rattle.std.proofs.Common.{◌≡◌, ◌≢◌, ℕ, Bool, true, List, [], �
 use Rattle.outside.specs.Faults.{NeverFalls, RoseOrFull}
 use Rattle.outside.specs.Told.{Adds}
 use Rattle.outside.proofs.Laws.{Adds-nothing, Adds-twice, RoseOrFull-earlier}
+use Rattle.command_line.specs.declared.command.RemoteWord.{RemoteWord}
 use Rattle.command_line.specs.declared.command.TableWord.{TableWord}
 use Rattle.command_line.specs.declared.command.Task.{Task}
 use Rattle.sq_value.specs.declared.value.Value.{Value}
 use Rattle.sq_value.specs.declared.value.Truth.{Truth}
 use Rattle.run_base.specs.Items.{Item}
 use Rattle.run_base.specs.Seen.{Folder, Sink, Outputs, World}
-use Rattle.run_plan.specs.Doing.{Went}
-use Rattle.run_plan.specs.Given.{Given}
 use Rattle.run_plan.specs.Prepared.{Predicates}
+use Rattle.run_plan.specs.Naming.{Counts}
 use Rattle.run_plan.specs.Refusal.{IsEarly}
-use Rattle.run_plan.specs.declared.plan.Plan.{Plan}
 use Rattle.run_plan.specs.declared.status.Status.{Status}
 use Rattle.run_plan.specs.declared.status.Status.TheVariants as status
 use Rattle.run_plan.specs.declared.status.Stage.{Stage}
 use Rattle.run_plan.specs.declared.status.Stage.TheVariants as stage
 use Rattle.run_plan.specs.Stage.{stage_of}
 use Rattle.run_plan.proofs.StageLemmas.{early_not_done}
-use Rattle.run_notes.specs.Note.{IsNoted, NotesOf, line_of, names_of}
+use Rattle.run_notes.specs.Note.{Names, IsNoted, NotesOf, line_of, names_of}
 use Rattle.run_answers.specs.Answering.{Answers, Tallied, LinesPut, EndsSo}
 use Rattle.run_answers.specs.Together.{IsBundleTally, in_bundles, bundles_of}
 use Rattle.run_answers.specs.declared.stopping.Stop.{Stop}
@@ -28,52 +27,32 @@ use Rattle.run_answers.specs.declared.stopping.Stop.TheVariants as stop
 use Rattle.run_answers.proofs.AnswerLemmas.{same_written, same_faults}
 use Rattle.run_answers.proofs.BundleLemmas.{bundles_whole}
 use Rattle.run_answers.proofs.ProgressLemmas.{tallied_output}
-use Rattle.eddyql.specs.Asked.{asked, names_asked, tables_in, is_tallied}
-use Rattle.eddyql.specs.Ending.{AnsweredBy, Ended, EndedBy, LinedBy, NotedLines, Ran, Finished, stop_at, stop_of}
+use Rattle.eddyql.specs.Asked.{asked, names_asked, names_in, no_names, tables_in, remotes_in, is_tallied}
+use Rattle.eddyql.specs.Ending.{AnsweredBy, Ended, EndedBy, LinedBy, NotedLines, Ran, Finished, end_with, stop_at, stop_of}
 use Rattle.eddyql.specs.Lines.{SomeLines, RunOf, Progress, IsNotedBehind, MayFail}
-use Rattle.eddyql.specs.Outcome.{IsGivenFor, IsGivenTo, IsRequested, due_by, items_of, task_text}
+use Rattle.eddyql.specs.Outcome.{Due, IsGivenTo, IsOutcome, IsTextDue, RunGiven, task_text}
 use Rattle.eddyql.specs.declared.asking.Request.{Request}
 use Rattle.eddyql.specs.declared.run.End.{End}
 use Rattle.eddyql.specs.declared.run.End.TheVariants as end
-use Rattle.eddyql.proofs.EndedLemmas.{end_at, answered_done, answered_write, answered_notes, answered_memory, ended_by_other, ended_memory, ended_usage, ended_early, refused_of}
-use Rattle.eddyql.proofs.PlanLemmas.{outcome_planned, some_given}
+use Rattle.eddyql.proofs.EndedLemmas.{answered_done, answered_write, answered_notes, answered_memory, ended_by_other, ended_memory, ended_usage, ended_early}
+use Rattle.eddyql.proofs.PlanLemmas.{some_given}
 use Rattle.eddyql.proofs.StageLemmas.{Done-only}
 
 -- ---- the lines of counts
 
 -- how the answers of a plan ended
-pub plan_done : {A O N : Type 0} (tally : Bool) (IsRight : ℕ → A → List ℕ → Type 0) (all : List A) (text : List A → List ℕ)
-    (old new : Outputs O N) (r : Result (Unit {0}) Stop) (x : Unit {0}) → r ≡ Ok x → Answers tally IsRight 1 all text old new r
-    → AnsweredBy tally old new (text all) (end.By status.Done)
-    × Tallied tally IsRight 1 all text old new (stop_of (end.By status.Done))
-plan_done tally IsRight all text old new r x e a =
-    let b : Answers tally IsRight 1 all text old new (Ok tt) =
-    subst (λ (q : Result (Unit {0}) Stop). Answers tally IsRight 1 all text old new q) e a in
-    (answered_done tally old new (text all) b.out, b.notes)
-
-pub plan_stopped : {A O N : Type 0} (tally : Bool) (IsRight : ℕ → A → List ℕ → Type 0) (all : List A) (text : List A → List ℕ)
-    (old new : Outputs O N) (r : Result (Unit {0}) Stop) (y : Stop) → r ≡ Err y → Answers tally IsRight 1 all text old new r
-    → AnsweredBy tally old new (text all) (end_at y)
-    × Tallied tally IsRight 1 all text old new (stop_of (end_at y))
-plan_stopped tally IsRight all text old new r y e a =
-    by y (subst (λ (q : Result (Unit {0}) Stop). Answers tally IsRight 1 all text old new q) e a)
-  where
-    by : (y : Stop) → Answers tally IsRight 1 all text old new (Err y)
-        → AnsweredBy tally old new (text all) (end_at y)
-        × Tallied tally IsRight 1 all text old new (stop_of (end_at y))
-    by stop.Output b = (
-      answered_write tally old new (text all) b.out,
-      tallied_output tally IsRight 1 all text old new b.notes,
-    )
-    by stop.Notes b = (answered_notes tally old new (text all) b.out b.notes.end'.1 b.notes.end'.0.rose, b.notes)
-    by stop.Memory b = (answered_memory tally old new (text all) b.out, b.notes)
-
--- the lines of an equal end
-pub tallied_is : {A O N : Type 0} (tally : Bool) (IsRight : ℕ → A → List ℕ → Type 0) (all : List A) (text : List A → List ℕ)
-    (old new : Outputs O N) (r q : Result (Unit {0}) Stop) → r ≡ q → Tallied tally IsRight 1 all text old new r
-    → Tallied tally IsRight 1 all text old new q
-tallied_is tally IsRight all text old new r q e h =
-    subst (λ (x : Result (Unit {0}) Stop). Tallied tally IsRight 1 all text old new x) e h
+pub plan_ended : {A O N : Type 0} (tally : Bool) (IsRight : ℕ → A → List ℕ → Type 0) (all : List A) (text : List A → List ℕ)
+    (old new : Outputs O N) (r : Result (Unit {0}) Stop) → Answers tally IsRight 1 all text old new r
+    → AnsweredBy tally old new (text all) (end_with r)
+    × Tallied tally IsRight 1 all text old new (stop_of (end_with r))
+plan_ended tally IsRight all text old new (Ok x) b = (answered_done tally old new (text all) b.out, b.notes)
+plan_ended tally IsRight all text old new (Err stop.Output) b = (
+  answered_write tally old new (text all) b.out,
+  tallied_output tally IsRight 1 all text old new b.notes,
+)
+plan_ended tally IsRight all text old new (Err stop.Notes) b =
+    (answered_notes tally old new (text all) b.out b.notes.end'.1 b.notes.end'.0.rose, b.notes)
+plan_ended tally IsRight all text old new (Err stop.Memory) b = (answered_memory tally old new (text all) b.out, b.notes)
 
 -- the text of all bundles is that of all statements
 pub answered_whole : {O N : Type 0} (tally shared : Bool) (t : Task) (gives : ℕ → Value → Value → Truth) (items : List Item) (old new : Outputs O N) (e : End)
@@ -81,35 +60,30 @@ pub answered_whole : {O N : Type 0} (tally shared : Bool) (t : Task) (gives : �
 answered_whole tally shared t gives items old new e h =
     subst (λ (z : List ℕ). AnsweredBy tally old new z e) (ap (task_text t gives) (bundles_whole shared items)) h
 
--- the lines of a plan that was run
-pub lines_answered : {O N : Type 0} (p : Predicates) (words : List (List ℕ)) (a : Request) (plan : Plan) (old new : Folder) (before now : Outputs O N) (e : End)
-    → asked words ≡ Some a → (w : Went old new (IsGivenFor a.task) (λ given. IsRequested p a given (Ok plan)))
-    → Tallied a.settings.tally (IsBundleTally a.settings.shared a.settings.cache p.gives) 1 (bundles_of a.settings.shared (items_of plan))
+-- the lines of statements that were run
+pub lines_answered : {O N : Type 0} (p : Predicates) (words : List (List ℕ)) (a : Request) (given : RunGiven) (due : Due) (before now : Outputs O N) (e : End)
+    → asked words ≡ Some a → IsOutcome p words given due → IsTextDue due
+    → Tallied a.settings.tally (IsBundleTally a.settings.shared a.settings.cache p.gives) 1 (bundles_of a.settings.shared due.items)
     (λ bundles. task_text a.task p.gives (in_bundles bundles)) before now (stop_of e)
-    → NotedLines p words w.given before now e
-lines_answered p words a plan old new before now e is w h =
+    → NotedLines p words given before now e
+lines_answered p words a given due before now e is d some h =
     record { end' = by (stop_of e) h.end'; quiet = λ q. h.quiet (sym tally ∙ q) }
   where
     tally : is_tallied words ≡ a.settings.tally
     tally = rw is refl
 
-    of : RunOf p words w.given
-    of = record {
-      request = a;
-      in_form = is;
-      items = items_of plan;
-      due = (due_by (Ok plan), outcome_planned p words w.given a plan is w.tells, inr refl, refl);
-    }
+    of : RunOf p words given
+    of = record { request = a; in_form = is; items = due.items; due = (due, d, some, refl) }
 
     text : List (List Item) → List ℕ
     text = λ bundles. task_text a.task p.gives (in_bundles bundles)
 
-    progress : LinesPut text h.finished h.left h.lines before now → Progress p words w.given before.out now.out h.lines
+    progress : LinesPut text h.finished h.left h.lines before now → Progress p words given before.out now.out h.lines
     progress k = record { of = of; finished = h.finished; left = h.left; split = h.split; are = h.are; took = k.took }
 
     by : (r : Result (Unit {0}) Stop)
         → EndsSo a.settings.tally (IsBundleTally a.settings.shared a.settings.cache p.gives) 1 text h.finished h.left h.lines before now r
-        → LinedBy p words w.given before now r
+        → LinedBy p words given before now r
     by (Ok x) k = (h.lines, (progress k.0, k.1), k.0.put, k.2)
     by (Err stop.Notes) k = record {
       of = of;
@@ -131,8 +105,8 @@ lines_answered p words a plan old new before now e is w h =
     by (Err stop.Memory) k = (h.lines, inr (progress k), k.put, k.counts)
 
 -- no line was put, and the run isn't done
-pub lines_unput : {O N : Type 0} {tables accesses : ℕ} (p : Predicates) (words : List (List ℕ)) (given : Given) (told : Type 0) (before : Outputs O N) (s : Status)
-    → IsEarly tables accesses told s
+pub lines_unput : {O N : Type 0} {known : Counts} (p : Predicates) (words : List (List ℕ)) (given : RunGiven) (told : Type 0) (before : Outputs O N) (s : Status)
+    → IsEarly known told s
     → NotedLines p words given before before (end.By s)
 lines_unput p words given told before s early = record { end' = by (stage_of s) refl; quiet = λ q. refl }
   where
@@ -151,7 +125,7 @@ by_either P s ended (inl e) h k = subst P (sym e) h
 by_either P s ended (inr e) h k = subst P (sym e) k
 
 -- lines that were put, whether or not the run was done
-lines_any : {O N : Type 0} (p : Predicates) (words : List (List ℕ)) (given : Given) (before now : Outputs O N) (st : Stage)
+lines_any : {O N : Type 0} (p : Predicates) (words : List (List ℕ)) (given : RunGiven) (before now : Outputs O N) (st : Stage)
     → LinedBy p words given before now (stop_at st)
     → (lines : List ℕ) × SomeLines p words given before.out now.out lines × Adds before.notes.written now.notes.written lines
     × NeverFalls before.notes.faults now.notes.faults
@@ -172,9 +146,9 @@ abbrev with_notes : {O N : Type 0} → World O N → Sink N → World O N
 with_notes w notes = record w { outputs = record w.outputs { notes = notes } }
 
 -- a run of what the words ask for, and its line
-finished_noted : {O N : Type 0} (p : Predicates) (words : List (List ℕ)) (a : Request) (given : Given) (old new : World O N) (said : Sink N) (s ended : Status)
+finished_noted : {O N : Type 0} (p : Predicates) (words : List (List ℕ)) (a : Request) (given : RunGiven) (old new : World O N) (said : Sink N) (s ended : Status)
     → asked words ≡ Some a → IsGivenTo words old.folder.holds given → EndedBy p words given old new (end.By s) → NotedLines p words given old.outputs new.outputs (end.By s)
-    → NotesOf (names_of (tables_in a.task)) new.outputs.notes said s ended → Finished p words old (with_notes new said) ended
+    → NotesOf (names_in a.task) new.outputs.notes said s ended → Finished p words old (with_notes new said) ended
 finished_noted p words a given old new said s ended is to h l n = record {
   given = given;
   is_given = to;
@@ -188,11 +162,10 @@ finished_noted p words a given old new said s ended is to h l n = record {
   noted_lines = λ other. inl (
     put.0,
     put.1,
-    subst (λ (names : List (List ℕ)). IsNotedBehind old.outputs.notes said put.0 (line_of names ended)) (sym names)
-        (noted_behind old.outputs.notes new.outputs.notes said put.0 (line_of (names_of (tables_in a.task)) ended) put.2 put.3 (n.noted other)),
+    subst (λ (names : Names). IsNotedBehind old.outputs.notes said put.0 (line_of names ended)) (sym names)
+        (noted_behind old.outputs.notes new.outputs.notes said put.0 (line_of (names_in a.task) ended) put.2 put.3 (n.noted other)),
   );
   cut = λ e calm. absurd (calm (h.write (written e n.either)));
-  refused = refused_of p words given old (with_notes new said) (MayFail words old.outputs (with_notes new said).outputs) ended done_so;
 }
   where
     rose : Type 0
@@ -209,7 +182,7 @@ finished_noted p words a given old new said s ended is to h l n = record {
     never : ◌≡◌ {A = Option Request} None (Some a) → ⊥
     never f = cc
 
-    names : names_asked words ≡ names_of (tables_in a.task)
+    names : names_asked words ≡ names_in a.task
     names = rw is refl
 
     done : (t : Status) → t ≡ status.Done → (t ≡ s) ⊎ (t ≡ status.Memory) → s ≡ status.Done
@@ -225,7 +198,7 @@ finished_noted p words a given old new said s ended is to h l n = record {
     on_done e k = subst (λ (t : Status). LinedBy p words given old.outputs new.outputs (stop_at (stage_of t))) (done ended e n.either) k
 
 -- a run that the notes stopped at a line of counts: nothing more is put to them
-finished_cut : {O N : Type 0} (p : Predicates) (words : List (List ℕ)) (a : Request) (given : Given) (old new : World O N) → asked words ≡ Some a
+finished_cut : {O N : Type 0} (p : Predicates) (words : List (List ℕ)) (a : Request) (given : RunGiven) (old new : World O N) → asked words ≡ Some a
     → IsGivenTo words old.folder.holds given → EndedBy p words given old new end.ByNotes → NotedLines p words given old.outputs new.outputs end.ByNotes
     → Finished p words old new status.Write
 finished_cut p words a given old new is to h l = record {
@@ -238,7 +211,6 @@ finished_cut p words a given old new is to h l = record {
   silent = λ e. absurd cc;
   noted_lines = λ other. inr (refl, l.end');
   cut = λ e calm. l.end';
-  refused = refused_of p words given old new (MayFail words old.outputs new.outputs) status.Write done_so;
 }
   where
     done_so : Ended p words given old new (MayFail words old.outputs new.outputs) status.Write
@@ -260,16 +232,17 @@ same_world {O} {N} mid new e f =
 
 -- the same by an equal end, and of an equal world
 pub finished_by : {O N : Type 0} (p : Predicates) (words : List (List ℕ)) (a : Request) (old mid new : World O N) (e : End) (s ended : Status)
-    (tables : List TableWord) → e ≡ end.By s → asked words ≡ Some a → Ran p words old mid e → tables ≡ tables_in a.task
+    (tables : List TableWord) (remotes : List RemoteWord) → e ≡ end.By s → asked words ≡ Some a → Ran p words old mid e → tables ≡ tables_in a.task → remotes ≡ remotes_in a.task
     → new.folder ≡ mid.folder → new.outputs.out ≡ mid.outputs.out
-    → NotesOf (names_of tables) mid.outputs.notes new.outputs.notes s ended
+    → NotesOf (names_of tables remotes) mid.outputs.notes new.outputs.notes s ended
     → Finished p words old new ended
-finished_by {O} {N} p words a old mid new e s ended tables f is ran same place out n =
+finished_by {O} {N} p words a old mid new e s ended tables remotes f is ran same alike place out n =
     subst (λ (w : World O N). Finished p words old w ended) (same_world mid new place out)
     (finished_noted p words a ran.given old mid new.outputs.notes s ended is ran.is_given
     (subst (λ (x : End). EndedBy p words ran.given old mid x) f ran.ended)
     (subst (λ (x : End). NotedLines p words ran.given old.outputs mid.outputs x) f ran.lines)
-    (subst (λ (ts : List TableWord). NotesOf (names_of ts) mid.outputs.notes new.outputs.notes s ended) same n))
+    (subst (λ (rs : List RemoteWord). NotesOf (names_of (tables_in a.task) rs) mid.outputs.notes new.outputs.notes s ended) alike
+    (subst (λ (ts : List TableWord). NotesOf (names_of ts remotes) mid.outputs.notes new.outputs.notes s ended) same n)))
 
 pub finished_by_notes : {O N : Type 0} (p : Predicates) (words : List (List ℕ)) (a : Request) (old new : World O N) (e : End)
     → e ≡ end.ByNotes → asked words ≡ Some a → Ran p words old new e → Finished p words old new status.Write
@@ -278,13 +251,13 @@ finished_by_notes p words a old new e f is ran =
     (subst (λ (x : End). NotedLines p words ran.given old.outputs new.outputs x) f ran.lines)
 
 -- words out of form, or want of memory for them, and its line
-same_line : (names : List (List ℕ)) (s : Status) → (s ≡ status.Usage) ⊎ (s ≡ status.Memory) → line_of [] s ≡ line_of names s
+same_line : (names : Names) (s : Status) → (s ≡ status.Usage) ⊎ (s ≡ status.Memory) → line_of no_names s ≡ line_of names s
 unfolding line_of
 same_line names s (inl e) = rw e refl
 same_line names s (inr e) = rw e refl
 
 usage_noted : {O N : Type 0} (p : Predicates) (words : List (List ℕ)) (old : World O N) (said : Sink N) (s ended : Status)
-    → (s ≡ status.Memory) ⊎ ((s ≡ status.Usage) × (asked words ≡ None)) → NotesOf [] old.outputs.notes said s ended
+    → (s ≡ status.Memory) ⊎ ((s ≡ status.Usage) × (asked words ≡ None)) → NotesOf no_names old.outputs.notes said s ended
     → Finished p words old (with_notes old said) ended
 usage_noted p words old said s ended why n = record {
   given = given;
@@ -300,13 +273,12 @@ usage_noted p words old said s ended why n = record {
     subst (λ (line : List ℕ). IsNoted old.outputs.notes said line) (same_line (names_asked words) ended (which why)) (n.noted other),
   );
   cut = λ e calm. absurd (not_write e (which why));
-  refused = refused_of p words given old (with_notes old said) fault ended (ends why);
 }
   where
-    some : (g : Given) × IsGivenTo words old.folder.holds g
+    some : (g : RunGiven) × IsGivenTo words old.folder.holds g
     some = some_given words old.folder.holds
 
-    given : Given
+    given : RunGiven
     given = some.0
 
     fault : Type 0
@@ -336,7 +308,7 @@ usage_noted p words old said s ended why n = record {
     not_write e (inr f) = let wrong : status.Memory ≡ status.Write = sym f ∙ e in cc
 
 pub finished_usage : {O N : Type 0} (p : Predicates) (words : List (List ℕ)) (folder : Folder) (old new : Outputs O N) (s ended : Status)
-    → (s ≡ status.Memory) ⊎ ((s ≡ status.Usage) × (asked words ≡ None)) → new.out ≡ old.out → NotesOf [] old.notes new.notes s ended
+    → (s ≡ status.Memory) ⊎ ((s ≡ status.Usage) × (asked words ≡ None)) → new.out ≡ old.out → NotesOf no_names old.notes new.notes s ended
     → Finished p words (record { folder = folder; outputs = old }) (record { folder = folder; outputs = new }) ended
 finished_usage {O} {N} p words folder old new s ended why same n =
     let was : World O N = record { folder = folder; outputs = old } in
@@ -349,5 +321,5 @@ pub same_out : {O N : Type 0} (old new : Outputs O N) → new ≡ old → new.ou
 same_out {O} {N} old new same = ap (λ (o : Outputs O N). o.out) same
 
 pub same_notes : {O N : Type 0} (old mid : Outputs O N) (said : Sink N) (s ended : Status) → mid ≡ old
-    → NotesOf [] mid.notes said s ended → NotesOf [] old.notes said s ended
-same_notes {O} {N} old mid said s ended same n = subst (λ (o : Outputs O N). NotesOf [] o.notes said s ended) same n
+    → NotesOf no_names mid.notes said s ended → NotesOf no_names old.notes said s ended
+same_notes {O} {N} old mid said s ended same n = subst (λ (o : Outputs O N). NotesOf no_names o.notes said s ended) same n

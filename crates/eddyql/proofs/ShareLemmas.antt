@@ -26,17 +26,19 @@ use Rattle.catalogue.specs.Named.{NamedTables}
 use Rattle.command_line.specs.Within.{HasScansAlone, IsTask}
 use Rattle.command_line.specs.declared.command.AccessWord.{AccessWord}
 use Rattle.command_line.specs.declared.command.Query.{Query}
+use Rattle.command_line.specs.declared.command.RemoteWord.{RemoteWord}
 use Rattle.command_line.specs.declared.command.TableWord.{TableWord}
 use Rattle.command_line.specs.declared.command.Task.{Task}
 use Rattle.command_line.specs.declared.command.Task.TheVariants as task
 use Rattle.outside.specs.Files.{File}
 use Rattle.run_base.specs.declared.bound.Bound.{Bound}
-use Rattle.run_plan.specs.Accesses.{access_to, accesses_read, accesses_to, first_lacking}
+use Rattle.run_plan.specs.Accesses.{accesses_read, accesses_to, first_lacking, reach_to}
 use Rattle.run_plan.specs.DemoScript.{demo_script}
 use Rattle.run_plan.specs.Faults.{script_status}
 use Rattle.run_plan.specs.Files.{catalogue_of, catalogue_read, table_read, tables_read}
 use Rattle.run_plan.specs.Given.{Given}
-use Rattle.run_plan.specs.Prepared.{Predicates, AreBoundTo, IsBoundAs, IsBoundPlan, IsBoundTo, IsDemoPlan, IsPlan, IsScript, IsSpelled}
+use Rattle.run_plan.specs.Headings.{Opened, opened_as, remotes_opened}
+use Rattle.run_plan.specs.Prepared.{Predicates, AreBoundTo, IsBoundAs, IsBoundPlan, IsBoundTo, IsDemoPlan, IsPlan, IsScript, IsSpelled, all_read, opened_over, plan_opened}
 use Rattle.run_plan.specs.Steps.{AndThen, Behind, ComesTo, or_fault, ◌>>=◌}
 use Rattle.run_plan.specs.declared.plan.Plan.{Plan}
 use Rattle.run_plan.specs.declared.status.Status.{Status}
@@ -45,7 +47,7 @@ use Rattle.demo_tables.specs.Demo.{demo}
 use Rattle.shared_eddy.specs.Sharing.{CanShare}
 use Rattle.shared_meaning.specs.Numbers.{is_used, used_among}
 use Rattle.shared_meaning.specs.Settled.{IsScannedAlone}
-use Rattle.eddyql.specs.Outcome.{IsGivenFor, IsTaskPlan}
+use Rattle.eddyql.specs.Outcome.{AreTaskFiles, IsTaskPlan}
 
 -- ---- how tables are reached
 
@@ -53,16 +55,16 @@ use Rattle.eddyql.specs.Outcome.{IsGivenFor, IsTaskPlan}
 AreScans : List Access → Type 0
 AreScans accesses = (table : ℕ) → get_or accesses table scanned ≡ scanned
 
-all_scanned : (tables : List Relation) (numbers : List ℕ) → (table : ℕ) → get_or (map (access_to tables []) numbers) table scanned ≡ scanned
+all_scanned : (tables : List Relation) (numbers : List ℕ) → (table : ℕ) → get_or (map (reach_to tables [] []) numbers) table scanned ≡ scanned
 all_scanned tables [] table = refl
 all_scanned tables (n ∷ ns) zero = refl
 all_scanned tables (n ∷ ns) (suc table) = all_scanned tables ns table
 
--- so it is where no access is asked for
-scans_read : (tables : List Relation) (accesses : List Access) → Ok accesses ≡ accesses_read tables [] → AreScans accesses
+-- so it is where no access is asked for, and there is no remote
+scans_read : (tables : List Relation) (accesses : List Access) → Ok accesses ≡ accesses_read tables [] [] → AreScans accesses
 unfolding AreScans accesses_read first_lacking
 scans_read tables accesses e =
-    let same : accesses ≡ accesses_to tables [] = same_ok accesses (accesses_to tables []) e in
+    let same : accesses ≡ accesses_to tables [] [] = same_ok accesses (accesses_to tables [] []) e in
     subst (λ (l : List Access). (table : ℕ) → get_or l table scanned ≡ scanned) (sym same) (all_scanned tables (range_with_len 0 (length tables)))
   where
     same_ok : (x y : List Access) → ◌≡◌ {A = Result (List Access) Status} (Ok x) (Ok y) → x ≡ y
@@ -190,7 +192,7 @@ few_used blocks many h =
 
 -- ---- the plan
 
-shared_plan : (p : Predicates) (script : Script) (catalogue : NamedTables) (plan : Plan) → IsBoundPlan p [] script catalogue (Ok plan)
+shared_plan : (p : Predicates) (script : Script) (catalogue : NamedTables) (plan : Plan) → IsBoundPlan p [] script (opened_as catalogue []) (Ok plan)
     → 0 < length script.statements → length script.statements ≤ 64 → length catalogue.tables ≤ 16
     → CanShare (blocks_in plan.statements) plan.catalogue.tables
 unfolding AreScanned
@@ -209,36 +211,54 @@ shared_plan p script catalogue plan h some few tables = by h.0 h.1 h.2
 
     made : (accesses : List Access) → AreScans accesses → (r : Result (List Bound) Status)
         → AreBoundTo (over catalogue accesses p.calls) 1 script.statements r
-        → Behind (λ bounds. ComesTo (Ok record { statements = bounds; catalogue = catalogue })) r (Ok plan)
+        → Behind (λ bounds. ComesTo (Ok (plan_opened (opened_as catalogue []) bounds))) r (Ok plan)
         → CanShare (blocks_in plan.statements) plan.catalogue.tables
     made accesses scans (Err s) b e = absurd cc
     made accesses scans (Ok bounds) b e =
-        let is : record { statements = bounds; catalogue = catalogue } ≡ plan = cc in
+        let is : plan_opened (opened_as catalogue []) bounds ≡ plan = cc in
         subst (λ (q : Plan). CanShare (blocks_in q.statements) q.catalogue.tables) is
         (can bounds (all_bound (over catalogue accesses p.calls) scans 1 script.statements bounds b))
 
-    by : (r : Result (List Access) Status) → r ≡ accesses_read catalogue.tables []
+    by : (r : Result (List Access) Status) → r ≡ accesses_read catalogue.tables [] []
         → Behind (λ accesses. AndThen (AreBoundTo (over catalogue accesses p.calls) 1 script.statements)
-        (λ bounds. ComesTo (Ok record { statements = bounds; catalogue = catalogue }))) r (Ok plan)
+        (λ bounds. ComesTo (Ok (plan_opened (opened_as catalogue []) bounds)))) r (Ok plan)
         → CanShare (blocks_in plan.statements) plan.catalogue.tables
     by (Err s) e k = absurd cc
     by (Ok accesses) e k = made accesses (scans_read catalogue.tables accesses e) k.0 k.1 k.2
 
-shared_query : (p : Predicates) (q : Query) (given : Given) (plan : Plan) → q.accesses ≡ [] → length given.tables ≤ 16 → IsPlan p q given (Ok plan)
-    → CanShare (blocks_in plan.statements) plan.catalogue.tables
-unfolding IsPlan
-shared_query p q given plan alone few h = by h.0 h.1 h.2
+-- where no remote is opened, the catalogue is that of the tables
+none_opened : (founds : List (Option (List ℕ))) (words : List TableWord) (o : Opened) (headings : List (Option (List ℕ))) (remotes : List RemoteWord)
+    → remotes ≡ []
+    → Ok o ≡ (catalogue_read founds words >>= (λ catalogue. opened_over headings catalogue remotes))
+    → (catalogue : NamedTables) × (Ok catalogue ≡ catalogue_read founds words) × (opened_as catalogue [] ≡ o)
+unfolding remotes_opened
+none_opened founds words o headings remotes none e =
+    by (catalogue_read founds words) refl
+    (e ∙ ap (λ (rs : List RemoteWord). catalogue_read founds words >>= (λ catalogue. opened_over headings catalogue rs)) none)
   where
-    behind : (script : Script) (text : List ℕ) → Spelled text script → (r : Result NamedTables Status) → r ≡ catalogue_read given.tables q.tables
-        → Behind (λ catalogue. IsBoundPlan p q.accesses script catalogue) r (Ok plan) → CanShare (blocks_in plan.statements) plan.catalogue.tables
+    by : (r : Result NamedTables Status) → r ≡ catalogue_read founds words
+        → Ok o ≡ (r >>= (λ catalogue. opened_over headings catalogue [])) → (catalogue : NamedTables) × (Ok catalogue ≡ catalogue_read founds words)
+        × (opened_as catalogue [] ≡ o)
+    by (Err s) f k = absurd cc
+    by (Ok catalogue) f k = let is : opened_as catalogue [] ≡ o = cc in (catalogue, f, is)
+
+shared_query : (p : Predicates) (q : Query) (given : Given) (plan : Plan) → q.accesses ≡ [] → q.remotes ≡ [] → length given.tables ≤ 16
+    → IsPlan p q given (Ok plan) → CanShare (blocks_in plan.statements) plan.catalogue.tables
+unfolding IsPlan
+shared_query p q given plan alone none few h = by h.0 h.1 h.2
+  where
+    behind : (script : Script) (text : List ℕ) → Spelled text script → (r : Result Opened Status) → r ≡ all_read given q
+        → Behind (λ o. IsBoundPlan p q.accesses script o) r (Ok plan) → CanShare (blocks_in plan.statements) plan.catalogue.tables
     behind script text s (Err refusal) e k = absurd cc
-    behind script text s (Ok catalogue) e k =
-        let long = tables_long given.tables q.tables catalogue e in
-        shared_plan p script catalogue plan (subst (λ (asked : List AccessWord). IsBoundPlan p asked script catalogue (Ok plan)) alone k)
+    behind script text s (Ok o) e k =
+        let is = none_opened given.tables q.tables o given.headings q.remotes none e in
+        let long = tables_long given.tables q.tables is.0 is.1 in
+        let bound = subst (λ (x : Opened). IsBoundPlan p q.accesses script x (Ok plan)) (sym is.2) k in
+        shared_plan p script is.0 plan (subst (λ (asked : List AccessWord). IsBoundPlan p asked script (opened_as is.0 []) (Ok plan)) alone bound)
         (some_statements text script s) s.1 (omega (arith, long, few))
 
     by : (r : Result Script Status) → IsScript given.script r
-        → Behind (λ script. AndThen (ComesTo (catalogue_read given.tables q.tables)) (λ catalogue. IsBoundPlan p q.accesses script catalogue)) r (Ok plan)
+        → Behind (λ script. AndThen (ComesTo (all_read given q)) (λ o. IsBoundPlan p q.accesses script o)) r (Ok plan)
         → CanShare (blocks_in plan.statements) plan.catalogue.tables
     by (Err refusal) s e = absurd cc
     by (Ok script) s k = let spelled = script_given given.script script s in behind script spelled.0 spelled.1 k.0 k.1 k.2
@@ -247,7 +267,7 @@ shared_demo : (p : Predicates) (rows seed : ℕ) (plan : Plan) → IsDemoPlan p 
 unfolding IsDemoPlan
 shared_demo p rows seed plan h = by h.0 h.1 h.2
   where
-    by : (r : Result Script Status) → IsSpelled demo_script r → Behind (λ script. IsBoundPlan p [] script (demo rows (seed % 1000))) r (Ok plan)
+    by : (r : Result Script Status) → IsSpelled demo_script r → Behind (λ script. IsBoundPlan p [] script (opened_as (demo rows (seed % 1000)) [])) r (Ok plan)
         → CanShare (blocks_in plan.statements) plan.catalogue.tables
     by (Err refusal) s e = absurd cc
     by (Ok script) s k =
@@ -256,8 +276,8 @@ shared_demo p rows seed plan h = by h.0 h.1 h.2
 
 -- a plan of what the words ask for, where they reach tables by scans alone
 pub can_share : (p : Predicates) (t : Task) (seed : ℕ) (holds : Option (List File)) (given : Given) (plan : Plan) → IsTask t → HasScansAlone t
-    → IsGivenFor t holds given → IsTaskPlan p t seed given (Ok plan) → CanShare (blocks_in plan.statements) plan.catalogue.tables
+    → AreTaskFiles t holds given → IsTaskPlan p t seed given (Ok plan) → CanShare (blocks_in plan.statements) plan.catalogue.tables
 can_share p (task.Query q) seed holds given plan within alone agrees h =
-    let count = agrees.tables.count in
-    let few = within.few in shared_query p q given plan alone.0 (omega (arith, count, few)) h
+    let count = agrees.opened.tables.count in
+    let few = within.few in shared_query p q given plan alone.0 alone.1 (omega (arith, count, few)) h
 can_share p (task.Demo rows) seed holds given plan within alone agrees h = shared_demo p rows seed plan h

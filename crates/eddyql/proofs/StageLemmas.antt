@@ -1,7 +1,8 @@
 -- How a run may end, by the stage and the phase of its status.
-use Rattle.std.proofs.Common.{◌≡◌, ℕ, List, Option, Some, None, refl, sym, ◌∙◌, ap, subst, ◌⊎◌, inl, inr}
+use Rattle.std.proofs.Common.{◌≡◌, List, Option, Some, None, refl, sym, ◌∙◌, ap, subst, ◌⊎◌, inl, inr}
 use Rattle.std.specs.Prelude.{MatchOption, unwrap_or}
-use Rattle.run_plan.specs.Stage.{Phase, Before, Writing, AnyTime, phase_of, phase_of_file, stage_of, file_unread}
+use Rattle.run_plan.specs.Stage.{Phase, Before, AtStatement, Writing, AnyTime, phase_of, phase_of_file, stage_of, file_unread}
+use Rattle.run_plan.specs.Naming.{Counts}
 use Rattle.run_plan.specs.Refusal.{RefusesIn, MayRefuse, IsBetween, IsEarly}
 use Rattle.run_plan.specs.declared.status.FileOf.{FileOf}
 use Rattle.run_plan.specs.declared.status.FileOf.TheVariants as file
@@ -27,10 +28,14 @@ Memory-only _ e = absurd cc
 pub file_not_late : (f : FileOf) → IsWriting (phase_of_file f) → ⊥
 file_not_late file.Script h = h
 file_not_late (file.Table number) h = h
+file_not_late (file.Heading remote) h = h
+file_not_late (file.Key at) h = h
 
 refused_file : (f : FileOf) (P : Type 0) → RefusesIn (phase_of_file f) P → P
 refused_file file.Script P h = h
 refused_file (file.Table number) P h = h
+refused_file (file.Heading remote) P h = h
+refused_file (file.Key at) P h = absurd h
 
 -- no read fault comes from a step that writes
 late_unread : (s : Status) (f : FileOf) → file_unread s ≡ Some f → IsLate s → ⊥
@@ -45,6 +50,8 @@ IsRefused IsDue s = (due : Due) × IsDue due × (due.refusal ≡ Some s)
 early_limit : (l : LimitOf) (writes P : Type 0) (IsDue : Due → Type 0) → (P → IsRefused IsDue (status.Limit l))
     → RefusesIn (phase_of (status.Limit l)) P → EndsAt (stage_of (status.Limit l)) writes IsDue (status.Limit l)
 early_limit (limit.File g) writes P IsDue f h = f (refused_file g P h)
+early_limit (limit.Keys remote) writes P IsDue f h = absurd h
+early_limit (limit.Rows remote) writes P IsDue f h = absurd h
 early_limit _ writes P IsDue f h = f h
 
 early_at : (s : Status) (writes P : Type 0) (IsDue : Due → Type 0) → IsBetween s
@@ -52,40 +59,41 @@ early_at : (s : Status) (writes P : Type 0) (IsDue : Due → Type 0) → IsBetwe
 early_at status.Memory writes P IsDue i f h = tt
 early_at status.Done writes P IsDue i f h = absurd i
 early_at status.Write writes P IsDue i f h = absurd i
+early_at (status.BadKey at why) writes P IsDue i f h = absurd i
 early_at (status.NotFound g) writes P IsDue i f h = f (refused_file g P h)
 early_at (status.Read g) writes P IsDue i f h = f (refused_file g P h)
 early_at (status.Limit l) writes P IsDue i f h = early_limit l writes P IsDue f h
 early_at _ writes P IsDue i f h = f h
 
-pub MayEnd-early : {tables accesses : ℕ} (reads others : FileOf → Type 0) (writes told P : Type 0) (IsDue : Due → Type 0) (s : Status)
-    → IsEarly tables accesses told s → (P → IsRefused IsDue s) → ((f : FileOf) → reads f → others f) → MayRefuse reads P s → MayEnd others writes IsDue s
+pub MayEnd-early : {known : Counts} (reads others : FileOf → Type 0) (writes told P : Type 0) (IsDue : Due → Type 0) (s : Status)
+    → IsEarly known told s → (P → IsRefused IsDue s) → ((f : FileOf) → reads f → others f) → MayRefuse reads P s → MayEnd others writes IsDue s
 MayEnd-early reads others writes told P IsDue s early f weaker h = by (file_unread s) h
   where
     by : (o : Option FileOf) → MatchOption o (RefusesIn (phase_of s) P) reads → MatchOption o (EndsAt (stage_of s) writes IsDue s) others
     by None k = early_at s writes P IsDue early.between f k
     by (Some g) k = weaker g k
 
--- a run whose text is due, and that nothing refuses, ends by a step that writes
+-- a run whose text is due ends by a step that writes, and is done only where nothing refuses
 late_limit : (l : LimitOf) (rises : Type 0) (IsDue : Due → Type 0) → IsLate (status.Limit l) → EndsAt (stage_of (status.Limit l)) rises IsDue (status.Limit l)
 late_limit (limit.File g) rises IsDue late = absurd (file_not_late g late)
 late_limit _ rises IsDue late = absurd late
 
-late_at : (rises : Type 0) (IsDue : Due → Type 0) (due : Due) (s : Status) → IsDue due → due.refusal ≡ None → IsLate s → (s ≡ status.Write → rises)
-    → EndsAt (stage_of s) rises IsDue s
-late_at rises IsDue due status.Done d none late writes = (due, d, none)
-late_at rises IsDue due status.Write d none late writes = (writes refl, (due, d, inr none))
-late_at rises IsDue due status.Memory d none late writes = tt
-late_at rises IsDue due (status.NotFound g) d none late writes = absurd (file_not_late g late)
-late_at rises IsDue due (status.Read g) d none late writes = absurd (file_not_late g late)
-late_at rises IsDue due (status.Limit l) d none late writes = late_limit l rises IsDue late
-late_at rises IsDue due _ d none late writes = absurd late
+late_at : (rises : Type 0) (IsDue : Due → Type 0) (due : Due) (s : Status) → IsDue due → IsTextDue due → (s ≡ status.Done → due.refusal ≡ None) → IsLate s
+    → (s ≡ status.Write → rises) → EndsAt (stage_of s) rises IsDue s
+late_at rises IsDue due status.Done d some whole late writes = (due, d, whole refl)
+late_at rises IsDue due status.Write d some whole late writes = (writes refl, (due, d, some))
+late_at rises IsDue due status.Memory d some whole late writes = tt
+late_at rises IsDue due (status.NotFound g) d some whole late writes = absurd (file_not_late g late)
+late_at rises IsDue due (status.Read g) d some whole late writes = absurd (file_not_late g late)
+late_at rises IsDue due (status.Limit l) d some whole late writes = late_limit l rises IsDue late
+late_at rises IsDue due _ d some whole late writes = absurd late
 
 pub MayEnd-late : (reads : FileOf → Type 0) (rises : Type 0) (IsDue : Due → Type 0) (due : Due) (s : Status)
-    → IsDue due → due.refusal ≡ None → IsLate s → (s ≡ status.Write → rises) → MayEnd reads rises IsDue s
-MayEnd-late reads rises IsDue due s d none late writes = by (file_unread s) refl
+    → IsDue due → IsTextDue due → (s ≡ status.Done → due.refusal ≡ None) → IsLate s → (s ≡ status.Write → rises) → MayEnd reads rises IsDue s
+MayEnd-late reads rises IsDue due s d some whole late writes = by (file_unread s) refl
   where
     by : (o : Option FileOf) → file_unread s ≡ o → MatchOption o (EndsAt (stage_of s) rises IsDue s) reads
-    by None f = late_at rises IsDue due s d none late writes
+    by None f = late_at rises IsDue due s d some whole late writes
     by (Some g) f = absurd (late_unread s g f late)
 
 -- a fault of the output may have another reason
@@ -131,5 +139,6 @@ late_not_before s late before = at (phase_of s) late before
   where
     at : (phase : Phase) → IsWriting phase → IsSilent phase → ⊥
     at Before h k = h
+    at AtStatement h k = h
     at Writing h k = k
     at AnyTime h k = k

@@ -1,13 +1,15 @@
 -- What the words of the command line ask to be run.
-use Rattle.std.specs.Prelude.{◌≡◌, ℕ, Bool, true, false, ◌==◌, List, [], length, Option, Some, None, option_map, option_and_then, if◌then◌else◌}
+use Rattle.std.specs.Prelude.{◌≡◌, ℕ, Bool, true, false, List, [], length, Option, Some, None, option_map}
 use Rattle.std.specs.Option.{option_map_or}
 use Rattle.command_line.specs.Form.{command}
 use Rattle.command_line.specs.declared.command.AccessWord.{AccessWord}
 use Rattle.command_line.specs.declared.command.Command.{Command}
+use Rattle.command_line.specs.declared.command.RemoteWord.{RemoteWord}
 use Rattle.command_line.specs.declared.command.TableWord.{TableWord}
 use Rattle.command_line.specs.declared.command.Task.{Task}
 use Rattle.command_line.specs.declared.command.Task.TheVariants.{Query, Demo}
-use Rattle.run_notes.specs.Note.{names_of}
+use Rattle.run_plan.specs.Naming.{Counts, counts, zero_counts}
+use Rattle.run_notes.specs.Note.{Names, names_of}
 use Rattle.run_answers.specs.Settings.{settings_of}
 use Rattle.eddyql.specs.declared.asking.Request.{Request}
 
@@ -15,17 +17,9 @@ use Rattle.eddyql.specs.declared.asking.Request.{Request}
 abbrev pub request_of : Command → Request
 request_of c = record { task = c.task; settings = settings_of c }
 
--- whether a task is run: one with remotes isn't
-abbrev pub is_run : Task → Bool
-is_run (Query q) = length q.remotes == 0
-is_run (Demo rows) = true
-
-abbrev pub if_run : Request → Option Request
-if_run a = if is_run a.task then Some a else None
-
--- what words ask for, where they are in form and it is run
+-- what words ask for, where they are in form
 unfoldable pub asked : List (List ℕ) → Option Request
-asked words = option_and_then if_run (option_map request_of (command words))
+asked words = option_map request_of (command words)
 
 -- whether a task loads no file, as the demo's
 abbrev pub loads_none : Task → Bool
@@ -43,26 +37,36 @@ pub record IsDemoAsked (words : List (List ℕ)) : Type 0 where
   pub rows : ℕ
   pub task : request.task ≡ Demo rows
 
--- the tables of the words: the demo has none
+-- the tables, the accesses and the remotes of the words: the demo has none
 abbrev pub tables_in : Task → List TableWord
 tables_in (Query q) = q.tables
 tables_in (Demo rows) = []
 
--- the accesses of the words: the demo has none
 abbrev pub accesses_in : Task → List AccessWord
 accesses_in (Query q) = q.accesses
 accesses_in (Demo rows) = []
 
--- the tables and the accesses that words ask for
-abbrev pub tables_asked : List (List ℕ) → List TableWord
-tables_asked words = option_map_or (λ (a : Request). tables_in a.task) (asked words) []
+abbrev pub remotes_in : Task → List RemoteWord
+remotes_in (Query q) = q.remotes
+remotes_in (Demo rows) = []
 
-abbrev pub accesses_asked : List (List ℕ) → List AccessWord
-accesses_asked words = option_map_or (λ (a : Request). accesses_in a.task) (asked words) []
+-- how many there are
+abbrev pub counts_in : Task → Counts
+counts_in task = counts (length (tables_in task)) (length (accesses_in task)) (length (remotes_in task))
 
--- the names of the tables, as they were given
-abbrev pub names_asked : List (List ℕ) → List (List ℕ)
-names_asked words = option_map_or (λ (a : Request). names_of (tables_in a.task)) (asked words) []
+abbrev pub counts_asked : List (List ℕ) → Counts
+counts_asked words = option_map_or (λ (a : Request). counts_in a.task) (asked words) zero_counts
+
+-- the names of tables and remotes, as they were given
+abbrev pub names_in : Task → Names
+names_in task = names_of (tables_in task) (remotes_in task)
+
+-- no names
+abbrev pub no_names : Names
+no_names = names_of [] []
+
+abbrev pub names_asked : List (List ℕ) → Names
+names_asked words = option_map_or (λ (a : Request). names_in a.task) (asked words) no_names
 
 -- whether words ask for a line of counts for each statement
 abbrev pub is_tallied : List (List ℕ) → Bool

@@ -1,6 +1,6 @@
 -- How a run may end, beside the outcome of its words over the files.
 use Rattle.std.specs.Prelude.{◌≡◌, ◌⊎◌, Option, None, Some, MatchOption, ⊤}
-use Rattle.run_plan.specs.Stage.{Phase, Before, Writing, AnyTime, phase_of, stage_of, file_unread}
+use Rattle.run_plan.specs.Stage.{Phase, Before, AtStatement, Writing, AnyTime, phase_of, stage_of, file_unread}
 use Rattle.run_plan.specs.declared.status.FileOf.{FileOf}
 use Rattle.run_plan.specs.declared.status.Stage.{Stage}
 use Rattle.run_plan.specs.declared.status.Stage.TheVariants as stage
@@ -23,6 +23,7 @@ MayEnd reads writes IsDue s = MatchOption (file_unread s) (EndsAt (stage_of s) w
 -- the phases of steps that write
 abbrev pub IsWriting : Phase → Type 0
 IsWriting Before = ⊥
+IsWriting AtStatement = ⊥
 IsWriting Writing = ⊤
 IsWriting AnyTime = ⊤
 
@@ -33,6 +34,7 @@ IsLate s = IsWriting (phase_of s)
 -- the phases before anything is due to be written
 abbrev pub IsSilent : Phase → Type 0
 IsSilent Before = ⊤
+IsSilent AtStatement = ⊥
 IsSilent Writing = ⊥
 IsSilent AnyTime = ⊥
 

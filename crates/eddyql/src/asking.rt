@@ -6,7 +6,7 @@ ghost use Rattle.command_line.specs.Within.{IsTask, HasScansAlone};
 ghost use Rattle.run_answers.specs.Settings.{AreSettings};
 ghost use Rattle.eddyql.specs.Asked as spec;
 
-use command_line::{Command, TableWord, Task, WordsFault, read_command};
+use command_line::{Command, RemoteWord, TableWord, Task, WordsFault, read_command};
 use run_answers::Settings;
 use run_plan::Status;
 use std::alloc::Global;
@@ -25,6 +25,16 @@ impl Request {
     {
         match &self.task {
             Task::Query(query) => query.tables.as_slice(),
+            Task::Demo { rows: _ } => &[],
+        }
+    }
+
+    /// The remotes of the words: the demo has none.
+    pub fn remotes(&self) -> &[RemoteWord]
+        ensures { result.now ≡ spec.remotes_in self.now.task }
+    {
+        match &self.task {
+            Task::Query(query) => query.remotes.as_slice(),
             Task::Demo { rows: _ } => &[],
         }
     }
@@ -56,20 +66,10 @@ fn request_of(command: Command) -> Request
     Request { task, settings }
 }
 
-// Whether a task is run: one with remotes isn't.
-fn is_run(task: &Task) -> bool
-    ensures { result ≡ spec.is_run task.now }
-{
-    match task {
-        Task::Query(query) => query.remotes.is_empty(),
-        Task::Demo { rows: _ } => true,
-    }
-}
-
 /// What the words ask for.
 ///
 /// # Errors
-/// `Usage`: exactly where the words aren't in form, or ask for remotes; or `Memory`.
+/// `Usage`: exactly where the words aren't in form; or `Memory`.
 pub fn asked(alloc: Global, words: &[String]) -> Result<Request, Status>
     ensures ok { IfOk result (λ a. spec.asked (map string_bytes words.now) ≡ Some a) }
     ensures task { IfOk result (λ a. IsTask a.task) }
@@ -79,14 +79,7 @@ pub fn asked(alloc: Global, words: &[String]) -> Result<Request, Status>
         ⊎ ((s ≡ Status.Usage) × (spec.asked (map string_bytes words.now) ≡ None))) }
 {
     match read_command(alloc, words) {
-        Ok(command) => {
-            let request = request_of(command);
-            if is_run(&request.task) {
-                Ok(request)
-            } else {
-                Err(Status::Usage)
-            }
-        }
+        Ok(command) => Ok(request_of(command)),
         Err(WordsFault::OutOfForm) => Err(Status::Usage),
         Err(WordsFault::Memory) => Err(Status::Memory),
     }

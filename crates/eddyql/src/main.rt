@@ -56,7 +56,7 @@ fn main(rt: HostRuntime) -> ExitCode {
         }
         Err(error) => {
             let status = status_without_words(&error);
-            code_for(put_note(rt.alloc(), &[], status, &mut notes))
+            code_for(put_note(rt.alloc(), &[], &[], status, &mut notes))
         }
     }
 }

@@ -6,9 +6,10 @@ ghost use Rattle.run_base.specs.Runnable.{IsRunnable};
 ghost use Rattle.run_base.specs.Seen.{folder_seen};
 ghost use Rattle.shared_eddy.specs.Sharing.{CanShare};
 ghost use Rattle.run_plan.specs.Doing.{Went, Stopped};
+ghost use Rattle.run_plan.specs.Open.{HasRemotes};
 ghost use Rattle.run_plan.specs.Prepared.{predicates};
 ghost use Rattle.run_answers.specs.Together.{blocks_in};
-ghost use Rattle.eddyql.specs.Asked.{loads_none, tables_in, accesses_in};
+ghost use Rattle.eddyql.specs.Asked.{counts_in, loads_none};
 ghost use Rattle.eddyql.specs.Outcome as spec;
 
 use crate::asking::Request;
@@ -33,17 +34,17 @@ pub fn plan_for<F: Folder, P: Predicates>(
         IfOk result (λ plan.
         Went (folder_seen (F.holds folder.old) (F.faults folder.old))
         (folder_seen (F.holds folder.new) (F.faults folder.new))
-        (spec.IsGivenFor request.now.task) (λ given. spec.IsRequested p request.now given (Ok plan))) }
+        (spec.AreTaskFiles request.now.task) (λ files. spec.IsRequested p request.now files (Ok plan))) }
     ensures run { IfOk result (λ plan.
         All (IsRunnable (P.kinds_of functions.now) plan.catalogue.tables) plan.statements) }
+    ensures remotes { IfOk result HasRemotes }
     ensures scanned { HasScansAlone request.now.task → IfOk result (λ plan.
         CanShare (blocks_in plan.statements) plan.catalogue.tables) }
     ensures stopped { let p = predicates (P.number_of functions.now) (P.kinds_of functions.now) P.gives in
         IfErr result (λ s.
-        Stopped (length (tables_in request.now.task)) (length (accesses_in request.now.task))
-        (folder_seen (F.holds folder.old) (F.faults folder.old))
+        Stopped (counts_in request.now.task) (folder_seen (F.holds folder.old) (F.faults folder.old))
         (folder_seen (F.holds folder.new) (F.faults folder.new))
-        (spec.IsGivenFor request.now.task) (λ given. spec.IsRequested p request.now given (Err s))
+        (spec.AreTaskFiles request.now.task) (λ files. spec.IsRequested p request.now files (Err s))
         (spec.ReachedFor request.now.task) s) }
     ensures untouched { loads_none request.now.task ≡ true → folder.new ≡ folder.old }
 {

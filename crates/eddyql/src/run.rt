@@ -1,42 +1,49 @@
 //! The top call: from words, files and an output to a status.
 
-ghost use Rattle.std.specs.Prelude.{◌≡◌, ◌≢◌, ◌⊎◌, ◌∷◌, [], ℕ, true, false, List, Some, None, IsSome, All, map, length};
+ghost use Rattle.std.specs.Prelude.{◌≡◌, ◌≢◌, ◌⊎◌, ◌∷◌, [], ℕ, true, false, List, Some, None, IsSome, All, map};
 ghost use Rattle.std.specs.String.{string_bytes};
 ghost use Rattle.outside.specs.Faults.{NeverFalls, RoseOrFull};
 ghost use Rattle.outside.specs.Told.{Adds, AddsFront};
 ghost use Rattle.command_line.specs.Within.{IsTask, HasScansAlone};
 ghost use Rattle.run_base.specs.Runnable.{IsRunnable};
-ghost use Rattle.run_base.specs.Seen.{world_seen};
+ghost use Rattle.remote_answers.specs.Answered.{AnsweredTo};
+ghost use Rattle.remote_lookup.specs.declared.remote.RemoteKey.{RemoteKey};
+ghost use Rattle.run_base.specs.Items.{Item};
+ghost use Rattle.run_base.specs.Seen.{folder_seen, world_seen};
 ghost use Rattle.run_plan.specs.Faults.{IsPlaced};
 ghost use Rattle.run_plan.specs.Naming.{IsNamed};
+ghost use Rattle.run_plan.specs.Open.{HasRemotes};
 ghost use Rattle.run_plan.specs.Prepared.{predicates};
 ghost use Rattle.run_plan.specs.Refusal.{UnlessReadOrMemory};
 ghost use Rattle.run_plan.specs.declared.status.FileOf.{FileOf};
 ghost use Rattle.run_notes.specs.Note.{NotesOf, line_of, names_of};
-ghost use Rattle.run_answers.specs.Answering.{Answers, Tallied};
+ghost use Rattle.run_answers.specs.Answering.{Answers};
 ghost use Rattle.run_answers.specs.Settings.{AreSettings};
 ghost use Rattle.run_answers.specs.Tally.{IsTally};
+ghost use Rattle.run_answers.specs.Text.{text_of};
 ghost use Rattle.run_answers.specs.Together.{IsBundleTally, IsSharedTally, blocks_in, in_bundles, bundles_of};
 ghost use Rattle.shared_eddy.specs.Sharing.{CanShare};
-ghost use Rattle.eddyql.specs.Asked.{IsDemoAsked, names_asked, tables_asked, accesses_asked, is_tallied, loads_none, are_fileless};
+ghost use Rattle.eddyql.specs.Asked.{IsDemoAsked, names_asked, counts_asked, is_tallied, loads_none, are_fileless};
 ghost use Rattle.eddyql.specs.Asked as asking;
-ghost use Rattle.eddyql.specs.Ending.{AnsweredBy, Ran, Finished, stop_of};
+ghost use Rattle.eddyql.specs.Ending as ending;
+ghost use Rattle.eddyql.specs.Ending.{Finished, Ran, RanAlone, RanOver};
 ghost use Rattle.eddyql.specs.Lines.{AllLines, SomeLines, IsCutOff, IsNotedBehind, MayFail};
-ghost use Rattle.eddyql.specs.Outcome.{Due, IsOutcome, OneOutcome, OverGiven, ReachedBy, items_of, status_of, task_text, text_due};
+ghost use Rattle.eddyql.specs.Outcome.{Due, IsOutcome, OneOutcome, OverGiven, ReachedBy, ReachedKey, items_of, status_of, task_text, text_due};
 ghost use Rattle.eddyql.specs.Run.{MayEnd, IsBeforeOutput, IsUnrefused};
 
 use crate::asking::{Request, asked};
 use crate::host::Host;
 use crate::planning::plan_for;
-use command_line::{TableWord, Task};
+use command_line::{RemoteWord, TableWord, Task};
 use eddy_worker::Gate;
 use outside::{Folder, Sink};
+use remote_answers::{Halt, put_statements};
 use run_answers::{
     Engine, Stop, put_answers, put_answers_together, put_summary, put_summary_together,
 };
 use run_base::Outputs;
 use run_notes::put_note;
-use run_plan::{Plan, Status};
+use run_plan::{Plan, Status, remote_status};
 use sq_value::Predicates;
 use std::alloc::Global;
 use std::sync::Wait;
@@ -89,6 +96,7 @@ fn put_together<O: Sink, N: Sink, P: Predicates + Sync, G: Gate, R: Threads + Wa
     let Plan {
         statements,
         catalogue,
+        remotes: _,
     } = plan;
     let tables = catalogue.tables();
     match task {
@@ -119,7 +127,19 @@ fn put_task<O: Sink, N: Sink, P: Predicates + Sync, G: Gate, R: Threads + Wait +
     put_each(engine, task, &plan, outputs)
 }
 
-// Runs a plan, and says how that ended.
+// How a run ends by its answers.
+fn end_with(answered: Result<(), Stop>) -> End
+    ensures { result ≡ ending.end_with answered }
+{
+    match answered {
+        Ok(()) => End::By(Status::Done),
+        Err(Stop::Output) => End::By(Status::Write),
+        Err(Stop::Notes) => End::ByNotes,
+        Err(Stop::Memory) => End::By(Status::Memory),
+    }
+}
+
+// Runs a plan without remotes, and says how that ended.
 fn run_plan<O: Sink, N: Sink, P: Predicates + Sync, G: Gate, R: Threads + Wait + Sync>(
     engine: &Engine<'_, P, G, R>,
     task: &Task,
@@ -130,20 +150,85 @@ fn run_plan<O: Sink, N: Sink, P: Predicates + Sync, G: Gate, R: Threads + Wait +
     requires shared { engine.now.settings.now.shared ≡ true
         → CanShare (blocks_in plan.statements) plan.catalogue.tables }
     requires settings { AreSettings engine.now.settings.now }
-    ensures out { let shared = engine.now.settings.now.shared in
-        AnsweredBy engine.now.settings.now.tally outputs.old outputs.new
-        (task_text task.now P.gives (in_bundles (bundles_of shared (items_of plan)))) result }
-    ensures notes { let shared = engine.now.settings.now.shared in
-        Tallied engine.now.settings.now.tally (IsBundleTally shared engine.now.settings.now.cache P.gives) 1
-        (bundles_of shared (items_of plan)) (λ bundles. task_text task.now P.gives (in_bundles bundles))
-        outputs.old outputs.new (stop_of result) }
+    ensures { RanAlone engine.now.settings.now P.gives task.now plan outputs.old outputs.new result }
 {
-    match put_task(engine, task, plan, outputs) {
-        Ok(()) => End::By(Status::Done),
-        Err(Stop::Output) => End::By(Status::Write),
-        Err(Stop::Notes) => End::ByNotes,
-        Err(Stop::Memory) => End::By(Status::Memory),
+    end_with(put_task(engine, task, plan, outputs))
+}
+
+// Runs the statements of a plan with remotes one after another: before each its needed keys are loaded.
+fn put_over<F: Folder, O: Sink, N: Sink, P: Predicates + Sync, G: Gate, R: Threads + Wait + Sync>(
+    engine: &Engine<'_, P, G, R>,
+    plan: Plan,
+    folder: &mut F,
+    outputs: &mut Outputs<O, N>,
+) -> Result<(), Halt>
+    requires run { All (IsRunnable (P.kinds_of engine.now.functions.now) plan.catalogue.tables) plan.statements }
+    requires remotes { HasRemotes plan }
+    requires settings { AreSettings engine.now.settings.now }
+    ensures keeps { F.holds folder.new ≡ F.holds folder.old }
+    ensures counts { NeverFalls (F.faults folder.old) (F.faults folder.new) }
+    ensures answered { AnsweredTo engine.now.settings.now P.gives plan.catalogue.tables plan.remotes plan.statements
+        (folder_seen (F.holds folder.old) (F.faults folder.old))
+        (folder_seen (F.holds folder.new) (F.faults folder.new)) outputs.old outputs.new result }
+{
+    let Plan {
+        statements,
+        mut catalogue,
+        remotes,
+    } = plan;
+    let bounds = statements.as_slice();
+    put_statements(engine, bounds, &mut catalogue, remotes.as_slice(), folder, outputs)
+}
+
+// Runs a plan with remotes, and says how that ended.
+fn run_over<F: Folder, O: Sink, N: Sink, P: Predicates + Sync, G: Gate, R: Threads + Wait + Sync>(
+    engine: &Engine<'_, P, G, R>,
+    plan: Plan,
+    folder: &mut F,
+    outputs: &mut Outputs<O, N>,
+) -> End
+    requires run { All (IsRunnable (P.kinds_of engine.now.functions.now) plan.catalogue.tables) plan.statements }
+    requires remotes { HasRemotes plan }
+    requires settings { AreSettings engine.now.settings.now }
+    ensures keeps { F.holds folder.new ≡ F.holds folder.old }
+    ensures counts { NeverFalls (F.faults folder.old) (F.faults folder.new) }
+    ensures over { RanOver engine.now.settings.now P.gives plan
+        (folder_seen (F.holds folder.old) (F.faults folder.old))
+        (folder_seen (F.holds folder.new) (F.faults folder.new)) outputs.old outputs.new result }
+{
+    match put_over(engine, plan, folder, outputs) {
+        Ok(()) => end_with(Ok(())),
+        Err(Halt::Refused(fault)) => End::By(remote_status(fault)),
+        Err(Halt::Stopped(stop)) => end_with(Err(stop)),
     }
+}
+
+// Runs a plan.
+fn run_any<F: Folder, O: Sink, N: Sink, P: Predicates + Sync, G: Gate, R: Threads + Wait + Sync>(
+    engine: &Engine<'_, P, G, R>,
+    task: &Task,
+    plan: Plan,
+    folder: &mut F,
+    outputs: &mut Outputs<O, N>,
+) -> End
+    requires run { All (IsRunnable (P.kinds_of engine.now.functions.now) plan.catalogue.tables) plan.statements }
+    requires remotes { HasRemotes plan }
+    requires shared { engine.now.settings.now.shared ≡ true
+        → CanShare (blocks_in plan.statements) plan.catalogue.tables }
+    requires settings { AreSettings engine.now.settings.now }
+    ensures keeps { F.holds folder.new ≡ F.holds folder.old }
+    ensures counts { NeverFalls (F.faults folder.old) (F.faults folder.new) }
+    ensures alone { plan.remotes ≡ [] → folder.new ≡ folder.old }
+    ensures ran { plan.remotes ≡ []
+        → RanAlone engine.now.settings.now P.gives task.now plan outputs.old outputs.new result }
+    ensures over { plan.remotes ≢ [] → RanOver engine.now.settings.now P.gives plan
+        (folder_seen (F.holds folder.old) (F.faults folder.old))
+        (folder_seen (F.holds folder.new) (F.faults folder.new)) outputs.old outputs.new result }
+{
+    if plan.remotes.is_empty() {
+        return run_plan(engine, task, plan, outputs);
+    }
+    run_over(engine, plan, folder, outputs)
 }
 
 // Runs what the words ask for.
@@ -172,23 +257,24 @@ fn run_query<F: Folder, O: Sink, N: Sink, P: Predicates + Sync, G: Gate, R: Thre
                 functions,
                 gate: host.gate,
             };
-            run_plan(&engine, &request.task, plan, outputs)
+            run_any(&engine, &request.task, plan, folder, outputs)
         }
         Err(refusal) => End::By(refusal),
     }
 }
 
-/// Says on the notes why a run over these tables was refused.
+/// Says on the notes why a run over these tables and remotes was refused.
 pub fn note<O: Sink, N: Sink>(
     alloc: Global,
     tables: &[TableWord],
+    remotes: &[RemoteWord],
     status: Status,
     outputs: &mut Outputs<O, N>,
 ) -> Status
     ensures out { outputs.new.out ≡ outputs.old.out }
-    ensures notes { NotesOf (names_of tables.now) outputs.old.notes outputs.new.notes status result }
+    ensures notes { NotesOf (names_of tables.now remotes.now) outputs.old.notes outputs.new.notes status result }
 {
-    put_note(alloc, tables, status, &mut outputs.notes)
+    put_note(alloc, tables, remotes, status, &mut outputs.notes)
 }
 
 // Runs what the words ask for, and says on the notes why it was refused.
@@ -209,7 +295,13 @@ fn run_noted<F: Folder, O: Sink, N: Sink, P: Predicates + Sync, G: Gate, R: Thre
     ensures untouched { loads_none request.now.task ≡ true → folder.new ≡ folder.old }
 {
     match run_query(host, functions, request, folder, outputs) {
-        End::By(status) => note(host.alloc, request.tables(), status, outputs),
+        End::By(status) => note(
+            host.alloc,
+            request.tables(),
+            request.remotes(),
+            status,
+            outputs,
+        ),
         End::ByNotes => Status::Write,
     }
 }
@@ -229,22 +321,25 @@ fn run_words<F: Folder, O: Sink, N: Sink, P: Predicates + Sync, G: Gate, R: Thre
 {
     match asked(host.alloc, words) {
         Ok(request) => run_noted(host, functions, &request, folder, outputs),
-        Err(refusal) => note(host.alloc, &[], refusal, outputs),
+        Err(refusal) => note(host.alloc, &[], &[], refusal, outputs),
     }
 }
 
 /// Runs a script: the top call, which does all that the program does.
 ///
 /// The words don't hold the program's own name. In this order they are read, the script is loaded and
-/// parsed, each table is loaded and read, the columns of the accesses are found, and all statements
-/// are bound; then each statement is run, and its answer is written to the output: its matches in order,
+/// parsed, each table and then each remote's heading is loaded and read, the columns of the accesses are found, and all
+/// statements are bound; then each statement is run, and its answer is written to the output: its matches in order,
 /// or with groups, DISTINCT or LIMIT the lines that are made of them. The first refusal ends the run,
-/// and one line on the notes says why. One that comes before a statement is run leaves the output as it was.
+/// and one line on the notes says why. One that comes before the first statement leaves the output as it was.
 ///
 /// `Done` has written exactly the text of the outcome of these words and predicates over what was given
 /// of the words' files, which is what the folder holds, where it tells that. Any refusal but a fault of
 /// the folder or the output, or want of memory, is that outcome's, and has written exactly the text
 /// before it. Want of memory may come at any point, and leaves a front of the text.
+///
+/// With remotes the files of a statement's needed keys are loaded before it is run, over the tables with their rows.
+/// Where its keys are refused, or a key's file isn't read, the answers before it are written, and nothing else.
 ///
 /// With `--shared` all statements run together, in one eddy over one module for each table, before the first answer is
 /// written. With `--tally` a line of counts is put to the notes behind each answer, or one behind all of these. A fault
@@ -286,7 +381,7 @@ pub fn run<F: Folder, O: Sink, N: Sink, P: Predicates + Sync, G: Gate, R: Thread
     ensures causes { let p = predicates (P.number_of functions.now) (P.kinds_of functions.now) P.gives in
         OverGiven (map string_bytes words.now) (F.holds folder.old) (λ given.
         MayEnd (λ file. RoseOrFull (F.faults folder.old) (F.faults folder.new)
-        × ReachedBy (map string_bytes words.now) given file)
+        × ReachedBy p (map string_bytes words.now) given file)
         (MayFail (map string_bytes words.now) outputs.old outputs.new)
         (IsOutcome p (map string_bytes words.now) given) result) }
     ensures usage_only { result ≡ Status.Usage → asking.asked (map string_bytes words.now) ≡ None }
@@ -296,8 +391,7 @@ pub fn run<F: Folder, O: Sink, N: Sink, P: Predicates + Sync, G: Gate, R: Thread
     ensures untouched { are_fileless (map string_bytes words.now) ≡ true → folder.new ≡ folder.old }
     ensures kept { UnlessReadOrMemory result (F.faults folder.new ≡ F.faults folder.old) }
     ensures placed { IsPlaced result }
-    ensures named { IsNamed (length (tables_asked (map string_bytes words.now)))
-        (length (accesses_asked (map string_bytes words.now))) result }
+    ensures named { IsNamed (counts_asked (map string_bytes words.now)) result }
     ensures read { (file : FileOf) → result ≡ Status.Read file
         → RoseOrFull (F.faults folder.old) (F.faults folder.new) }
     ensures write { result ≡ Status.Write
@@ -314,6 +408,13 @@ pub fn run<F: Folder, O: Sink, N: Sink, P: Predicates + Sync, G: Gate, R: Thread
         → OverGiven (map string_bytes words.now) (F.holds folder.old) (λ given.
         (due : Due) → IsOutcome p (map string_bytes words.now) given due
         → (result ≡ status_of due) ⊎ (result ≡ Status.Memory)) }
+
+    // Where a key's file isn't read, exactly the answers before its statement are written.
+    ensures unread { let p = predicates (P.number_of functions.now) (P.kinds_of functions.now) P.gives in
+        (at : RemoteKey) → result ≡ Status.Read (FileOf.Key at)
+        → OverGiven (map string_bytes words.now) (F.holds folder.old) (λ given. (items : List Item)
+        × ReachedKey p (map string_bytes words.now) given items at
+        × Adds outputs.old.out.written outputs.new.out.written (text_of P.gives items)) }
 
     // Nothing but a front of the text that is due is written, and a refusal before the output leaves it as it was.
     ensures nothing { IsBeforeOutput result → outputs.new.out ≡ outputs.old.out }

@@ -126,7 +126,7 @@ pub fn program_as_shipped<F: Folder, O: Sink, N: Sink, G: Gate, R: Threads + Wai
 {
     match run_shipped(host, words, folder, outputs) {
         Ok(code) => code,
-        Err(Memory) => code_for(note(host.alloc, &[], Status::Memory, outputs)),
+        Err(Memory) => code_for(note(host.alloc, &[], &[], Status::Memory, outputs)),
     }
 }
 

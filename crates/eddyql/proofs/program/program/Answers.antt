@@ -32,7 +32,7 @@ returns-clause-done g c = λ zero.
 pub returns-clause-refused : goal.returns-clause-refused
 returns-clause-refused g c =
     let f = same_finished _ _ _ _ _ c.run.result c.behind_name-words.ensures c.run.ensures.finished in
-    (f.given, f.is_given, λ due d. (c.run.result, c.code_for.ensures, f.refused due d))
+    (f.given, f.is_given, λ due d. (c.run.result, c.code_for.ensures, f.ended.refused due d))
 
 pub returns-clause-complete : goal.returns-clause-complete
 returns-clause-complete g c = λ calm quiet.

@@ -6,7 +6,7 @@ pub returns-clause-done : goal.returns-clause-done
 returns-clause-done g c = λ e. let f = c.run_words.ensures.finished in (f.given, f.is_given, f.ended.done e)
 
 pub returns-clause-refused : goal.returns-clause-refused
-returns-clause-refused g c = let f = c.run_words.ensures.finished in (f.given, f.is_given, f.refused)
+returns-clause-refused g c = let f = c.run_words.ensures.finished in (f.given, f.is_given, f.ended.refused)
 
 pub returns-clause-causes : goal.returns-clause-causes
 returns-clause-causes g c = let f = c.run_words.ensures.finished in (f.given, f.is_given, f.ended.ends)
@@ -27,6 +27,9 @@ returns-clause-noted g c = λ other. let f = c.run_words.ensures.finished in (f.
 
 pub returns-clause-cut : goal.returns-clause-cut
 returns-clause-cut g c = λ e calm. let f = c.run_words.ensures.finished in (f.given, f.is_given, f.cut e calm)
+
+pub returns-clause-unread : goal.returns-clause-unread
+returns-clause-unread g c = λ at e. let f = c.run_words.ensures.finished in (f.given, f.is_given, f.ended.unread at e)
 
 pub returns-clause-demo : goal.returns-clause-demo
 returns-clause-demo g c = λ d. demo_finished _ _ _ _ c.run_words.result c.run_words.ensures.finished d

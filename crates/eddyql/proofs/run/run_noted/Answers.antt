@@ -4,8 +4,8 @@ use Rattle.eddyql.proofs.run.run_noted.Goals as goal
 
 pub returns-in-By-clause-finished : goal.returns-in-By-clause-finished
 returns-in-By-clause-finished g c =
-    λ words e. finished_by _ words c.args.request.now _ _ _ c.run_query.result c.in-By.status c.note.result _ c.in-By.is e
-    (c.run_query.ensures.ran words e) c.tables.ensures refl c.note.ensures.out c.note.ensures.notes
+    λ words e. finished_by _ words c.args.request.now _ _ _ c.run_query.result c.in-By.status c.note.result _ _ c.in-By.is e
+    (c.run_query.ensures.ran words e) c.tables.ensures c.remotes.ensures refl c.note.ensures.out c.note.ensures.notes
 
 pub returns-in-ByNotes-clause-finished : goal.returns-in-ByNotes-clause-finished
 returns-in-ByNotes-clause-finished g c =

@@ -11,7 +11,7 @@ use Rattle.eddyql.proofs.shipping.program_as_shipped.Goals as goal
 pub returns-in-Ok-clause-refused : goal.returns-in-Ok-clause-refused
 returns-in-Ok-clause-refused g c =
     let finished = c.in-Ok.ensures.finished in
-    (finished.2.given, finished.2.is_given, λ due d. (finished.0, finished.1, finished.2.refused due d))
+    (finished.2.given, finished.2.is_given, λ due d. (finished.0, finished.1, finished.2.ended.refused due d))
 
 pub returns-in-Err-clause-finished : goal.returns-in-Err-clause-finished
 returns-in-Err-clause-finished g c =
@@ -28,7 +28,7 @@ returns-in-Err-clause-refused g c =
     let finished = finished_usage _ _ (folder_seen (g.F.Folder.holds c.args.folder.now) (g.F.Folder.faults c.args.folder.now)) c.args.outputs.now c.note.new.outputs
     status.Memory c.note.result (inl refl) (c.note.ensures.out ∙ same_out _ _ kept.1)
     (same_notes _ _ _ _ c.note.result kept.1 c.note.ensures.notes) in
-    (finished.given, finished.is_given, λ due d. (c.note.result, c.code_for.ensures, finished.refused due d))
+    (finished.given, finished.is_given, λ due d. (c.note.result, c.code_for.ensures, finished.ended.refused due d))
 
 pub returns-in-Err-clause-complete : goal.returns-in-Err-clause-complete
 returns-in-Err-clause-complete g c = λ calm quiet.
