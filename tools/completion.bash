@@ -4,10 +4,10 @@ _eddyql() {
     COMPREPLY=()
     case $before in
         --policy) mapfile -t COMPREPLY < <(compgen -W 'lottery pressure greedy script' -- "$word") ;;
-        --workers | --seed | --route | --cache | --index | --lookup | --demo | --type | --separator | -c) ;;
+        --workers | --seed | --route | --cache | --index | --lookup | --remote | --demo | --type | --separator | -c) ;;
         *)
             if [[ $word == -* ]]; then
-                mapfile -t COMPREPLY < <(compgen -W '-c -h -v --cache --demo --explain-faults --help --index --json --lookup --policy --route
+                mapfile -t COMPREPLY < <(compgen -W '-c -h -v --cache --demo --explain-faults --help --index --json --lookup --policy --remote --route
                     --seed --separator --shared --svg --tally --tsv --type --version --workers' -- "$word")
             else
                 # Behind a table's name and `=`, which bash takes for a word of its own, comes a file.

@@ -13,6 +13,9 @@ FILES = {
     "empty.csv": b"",
     "bad.csv.gz": b"id,name\n",
     "marked.sql": b"\xef\xbb\xbfSELECT id FROM people\n",
+    "v/heading.csv": b"who:int,day:int\n",
+    "v/1.csv": b"who:int,day:int\n1,4\n",
+    "v/2.csv": b"who:int,day:int\n2,5\n3,6\n",
     "two.sql": "SELECT id FROM people;\n\n-- \u00e9\u00e9\n\tSELECT p.nmae\n\tFROM people p, orders o\n".encode(),
 }
 
@@ -157,6 +160,34 @@ usage: eddyql [OPTIONS] SCRIPT NAME=FILE.. or eddyql [OPTIONS] --demo ROWS
 """),
     ("queries together with a look-up", ["--shared", "--lookup", "people.id", "two.sql", "people.csv"], 2, """\
 usage: eddyql [OPTIONS] SCRIPT NAME=FILE.. or eddyql [OPTIONS] --demo ROWS
-  --shared goes without --index, --lookup and --cache; eddyql --help has the words
+  --shared goes without --index, --lookup, --remote and --cache; eddyql --help has the words
+"""),
+    ("a remote's column", ["--remote", "visit.whom=v/", "-c", "SELECT id FROM people", "people.csv"], 4, """\
+remote visit: bad heading
+  v/heading.csv: a heading alone, where each column has its type, and whom is marked :int
+  did you mean who?
+"""),
+    ("a heading that isn't there", ["--remote", "visit.who=w/", "-c", "SELECT id FROM people", "people.csv"], 5, """\
+read fault: heading of visit
+  w/heading.csv: No such file or directory
+"""),
+    ("a key's file with another key", ["--remote", "visit.who=v/", "-c", "SELECT name, day FROM people, visit WHERE id = who", "people.csv"], 4, """\
+remote visit key 2: bad file
+  v/2.csv: its columns are those of v/heading.csv, and who is 2 in each record
+"""),
+    ("a remote that nothing reaches", ["--remote", "visit.who=v/", "-c", "SELECT id FROM people p, visit v WHERE p.id < v.who", "people.csv"], 3, """\
+statement 1: alias 2 is unreachable
+  v is a remote, and no equality gives it keys
+"""),
+    ("a column of a remote", ["--remote", "visit.who=v/", "-c", "SELECT dya FROM people, visit WHERE id = who", "people.csv"], 3, """\
+statement 1: unknown column at byte 7
+  -c:1:8
+    SELECT dya FROM people, visit WHERE id = who
+           ^
+  did you mean day?
+"""),
+    ("queries together with a remote", ["--shared", "--remote", "visit.who=v/", "two.sql", "people.csv"], 2, """\
+usage: eddyql [OPTIONS] SCRIPT NAME=FILE.. or eddyql [OPTIONS] --demo ROWS
+  --shared goes without --index, --lookup, --remote and --cache; eddyql --help has the words
 """),
 ]
