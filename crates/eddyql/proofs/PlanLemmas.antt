@@ -119,12 +119,11 @@ outcome_unplanned p words given a s e h = (Err s, (Ok a, sym (ap (or_refuse stat
 -- of a plan without remotes
 pub outcome_planned : (p : Predicates) (words : List (List ℕ)) (given : RunGiven) (a : Request) (plan : Plan) → asked words ≡ Some a → plan.remotes ≡ []
     → IsRequested p a given.files (Ok plan) → IsOutcome p words given (due_as (items_of plan) None)
-outcome_planned p words given a plan e none h =
-    (
-      Ok plan,
-      (Ok a, sym (ap (or_refuse status.Usage) e), h),
-      subst (λ (rs : List Remote). IsDueOver p given plan rs (due_as (items_of plan) None)) (sym none) refl,
-    )
+outcome_planned p words given a plan e none h = (
+  Ok plan,
+  (Ok a, sym (ap (or_refuse status.Usage) e), h),
+  subst (λ (rs : List Remote). IsDueOver p given plan rs (due_as (items_of plan) None)) (sym none) refl,
+)
 
 -- and of one with remotes
 abbrev pub due_of : Course → Due

@@ -177,7 +177,14 @@ fn put_over<F: Folder, O: Sink, N: Sink, P: Predicates + Sync, G: Gate, R: Threa
         remotes,
     } = plan;
     let bounds = statements.as_slice();
-    put_statements(engine, bounds, &mut catalogue, remotes.as_slice(), folder, outputs)
+    put_statements(
+        engine,
+        bounds,
+        &mut catalogue,
+        remotes.as_slice(),
+        folder,
+        outputs,
+    )
 }
 
 // Runs a plan with remotes, and says how that ended.
