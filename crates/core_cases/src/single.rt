@@ -76,11 +76,12 @@ fn kept<F: Predicates>(
 fn a_list_replays_as_worked_out(rt: HostRuntime) -> Result<(), Fail> {
     let alloc = rt.alloc();
     let catalogue = catalogue_of_lines(alloc, TABLES)?;
-    let below = block_of_case(alloc, &catalogue, "s s s", BELOW, &NoPredicates)?;
-    if let Some(block) = below {
+    if let Some(block) = block_of_case(alloc, &catalogue, "s s s", BELOW, &NoPredicates)? {
         let told = replays(alloc, &block, catalogue.tables(), &NoPredicates)?;
         assert_eq!(rt; told.as_str(), "0 1 at 1");
+        return Ok(());
     }
+    assert_eq!(rt; "no block", "a block");
     Ok(())
 }
 
@@ -88,10 +89,11 @@ fn a_list_replays_as_worked_out(rt: HostRuntime) -> Result<(), Fail> {
 fn a_recorder_keeps_each_choice_and_return(rt: HostRuntime) -> Result<(), Fail> {
     let alloc = rt.alloc();
     let catalogue = catalogue_of_lines(alloc, TABLES)?;
-    let orders = block_of_case(alloc, &catalogue, "s s s", ORDERS, &NoPredicates)?;
-    if let Some(block) = orders {
+    if let Some(block) = block_of_case(alloc, &catalogue, "s s s", ORDERS, &NoPredicates)? {
         let count = kept(alloc, &block, catalogue.tables(), &NoPredicates, 28)?;
         assert_eq!(rt; count, 28);
+        return Ok(());
     }
+    assert_eq!(rt; "no block", "a block");
     Ok(())
 }

@@ -21,10 +21,11 @@ use std::thread::Threads;
 const TABLES: &str = "\
 cust id:int,name:text/1,Ada/2,Bob/3,
 ord oid:int,cid:int,amt:int/10,1,5/11,1,7/12,2,5/13,,9
-t x:int/1/2";
+t x:int/1/2
+n x:int/1/2/3";
 
-/// A join.
-const ORDERS: &str = "SELECT name, amt FROM cust c, ord o WHERE c.id = o.cid";
+/// A join, whose order changes nothing of a run.
+const ORDERS: &str = "SELECT name, amt FROM cust c, ord o WHERE c.id = o.cid ORDER BY amt DESC";
 
 /// Cases of the join under the script `v0`: how many turns are taken; a bar, how many rows are built and keys looked
 /// up, and the rows of each combination; a bar, and the ways of the tables.
@@ -33,11 +34,13 @@ const ORDERS: &str = "SELECT name, amt FROM cust c, ord o WHERE c.id = o.cid";
 /// a probe asks for is marked in its turn, and each end of a key takes one more. In the last case three rows of `ord`
 /// come by its scan and by a key.
 const CASES: &str = "\
-14 | 7 0 0,0 0,1 1,2 | s s s
-15 | 6 3 0,0 0,1 1,2 | s 1 s
-20 | 7 3 0,0 0,1 1,2 | s s1 s";
+14 | 7 0 0,0 0,1 1,2 | s s s s
+15 | 6 3 0,0 0,1 1,2 | s 1 s s
+20 | 7 3 0,0 0,1 1,2 | s s1 s s";
 
-/// A product of four.
+/// A product of two, and one of four.
+const PAIRS: &str = "SELECT a.x FROM n a, n b";
+
 const PRODUCT: &str = "SELECT a.x FROM t a, t b, t c, t d";
 
 /// A gate that wants each turn of a module told twice by its worker: that it has it, and next that it gave it back.
@@ -189,17 +192,18 @@ fn join_told<R: Threads + Wait + Sync>(
     }
 }
 
-// What so many workers answer for the product, as text.
+// What so many workers answer for a product, as text.
 fn product_told<G: Gate, R: Threads + Wait + Sync>(
     rt: &R,
     alloc: Global,
+    text: &str,
     workers: usize,
     gate: &G,
 ) -> Result<String, Fail>
     requires workers { (0 < workers) × (workers ≤ 16) }
 {
     let catalogue = catalogue_of_lines(alloc, TABLES)?;
-    match block_of_case(alloc, &catalogue, "s s s", PRODUCT, &NoPredicates)? {
+    match block_of_case(alloc, &catalogue, "s s s s", text, &NoPredicates)? {
         Some(block) => {
             let tables = catalogue.tables();
             told_by_scripts(rt, alloc, &block, tables, &NoPredicates, workers, gate)
@@ -220,16 +224,33 @@ fn workers_tell_each_turn_twice(rt: HostRuntime) -> Result<(), Fail> {
     Ok(())
 }
 
+// A gate at which the workers of these bits meet, of which none is there yet.
+fn meeting_of(all: u64) -> Meeting {
+    Meeting {
+        there: AtomicU64::new(0),
+        all,
+        late: AtomicU64::new(0),
+    }
+}
+
+// Each of two workers claims first from the alias of its own number, and holds its module until the other one holds
+// the module of its own.
+#[test]
+fn two_workers_meet(rt: HostRuntime) -> Result<(), Fail> {
+    let gate = meeting_of(3);
+    let told = product_told(&rt, rt.alloc(), PAIRS, 2, &gate)?;
+    assert_eq!(rt; told.as_str(), "6 0 0,0 0,1 0,2 1,0 1,1 1,2 2,0 2,1 2,2");
+    assert_eq!(rt; gate.there.load(Ordering::SeqCst), 3);
+    assert_eq!(rt; gate.late.load(Ordering::SeqCst), 0);
+    Ok(())
+}
+
 // Each of four workers claims first from the alias of its own number. Where two of them were one thread, or one ran
 // after another, some would wait in vain.
 #[test]
 fn four_workers_meet(rt: HostRuntime) -> Result<(), Fail> {
-    let gate = Meeting {
-        there: AtomicU64::new(0),
-        all: 15,
-        late: AtomicU64::new(0),
-    };
-    let told = product_told(&rt, rt.alloc(), 4, &gate)?;
+    let gate = meeting_of(15);
+    let told = product_told(&rt, rt.alloc(), PRODUCT, 4, &gate)?;
     assert!(rt; told.as_str().starts_with("8 0 0,0 0,0 0,0 0,0 0,1 "));
     assert_eq!(rt; gate.there.load(Ordering::SeqCst), 15);
     assert_eq!(rt; gate.late.load(Ordering::SeqCst), 0);
