@@ -3,7 +3,7 @@
 ghost use Rattle.sq_expr.specs.Fits.{IsFit};
 ghost use Rattle.sq_expr.specs.Reach.{IsReachable};
 
-use crate::drawn::{statement, tables, ways};
+use crate::drawn::{banded, statement, tables, ways};
 use crate::events::keys_by_events;
 use crate::policies::{POLICIES, keys_by_policy};
 use case_kit::{block_of_case, catalogue_of_lines};
@@ -14,6 +14,9 @@ use std::test::Fail;
 
 /// The word of random events, beside those of policies.
 const EVENTS: &str = "events";
+
+/// How blocks with a band are tried.
+const BAND_WORDS: &str = "events lottery greedy w0,w1,w2";
 
 /// How each table is reached where a block is tried that can't be reached as it was drawn.
 const SCANS: &str = "s s s";
@@ -52,11 +55,25 @@ fn count(keys: u64, tried: &mut Tried) {
     }
 }
 
+// A random statement, with a band where it is to have one.
+fn drawn(alloc: Global, state: &mut u64, with_band: bool) -> Result<String, Fail> {
+    if with_band {
+        return banded(alloc, state);
+    }
+    statement(alloc, state)
+}
+
 // Tries a random block, unless it can't be reached: then it must be one that scans reach.
-fn try_block(alloc: Global, state: &mut u64, word: &str, tried: &mut Tried) -> Result<(), Fail> {
+fn try_block(
+    alloc: Global,
+    state: &mut u64,
+    word: &str,
+    with_band: bool,
+    tried: &mut Tried,
+) -> Result<(), Fail> {
     let lines = tables(alloc, state)?;
     let ways = ways(alloc, state)?;
-    let text = statement(alloc, state)?;
+    let text = drawn(alloc, state, with_band)?;
     let (ways, text) = (ways.as_str(), text.as_str());
     let catalogue = catalogue_of_lines(alloc, lines.as_str())?;
     let keys = match block_of_case(alloc, &catalogue, ways, text, &NoPredicates)? {
@@ -76,7 +93,13 @@ fn try_block(alloc: Global, state: &mut u64, word: &str, tried: &mut Tried) -> R
 }
 
 // Tries random blocks until so many were right, or one was wrong.
-fn try_blocks(alloc: Global, state: &mut u64, word: &str, wanted: u32) -> Result<Tried, Fail> {
+fn try_blocks(
+    alloc: Global,
+    state: &mut u64,
+    word: &str,
+    with_band: bool,
+    wanted: u32,
+) -> Result<Tried, Fail> {
     let mut tried = Tried {
         right: 0,
         asking: 0,
@@ -84,7 +107,7 @@ fn try_blocks(alloc: Global, state: &mut u64, word: &str, wanted: u32) -> Result
     };
     for _ in 0..wanted.saturating_mul(9) {
         if tried.right < wanted && tried.wrong.is_empty() {
-            try_block(alloc, state, word, &mut tried)?;
+            try_block(alloc, state, word, with_band, &mut tried)?;
         }
     }
     Ok(tried)
@@ -93,7 +116,7 @@ fn try_blocks(alloc: Global, state: &mut u64, word: &str, wanted: u32) -> Result
 #[test]
 fn random_events_find_the_bag(rt: HostRuntime) -> Result<(), Fail> {
     let mut state = 22;
-    let tried = try_blocks(rt.alloc(), &mut state, EVENTS, 1000)?;
+    let tried = try_blocks(rt.alloc(), &mut state, EVENTS, false, 1000)?;
     assert_eq!(rt; tried.wrong.as_str(), "");
     assert_eq!(rt; tried.right, 1000);
     assert_eq!(rt; tried.asking > 100, true);
@@ -104,10 +127,21 @@ fn random_events_find_the_bag(rt: HostRuntime) -> Result<(), Fail> {
 fn policies_find_the_bag(rt: HostRuntime) -> Result<(), Fail> {
     let mut state = 15;
     for word in POLICIES.split(' ') {
-        let tried = try_blocks(rt.alloc(), &mut state, word, 400)?;
+        let tried = try_blocks(rt.alloc(), &mut state, word, false, 400)?;
         assert_eq!(rt; tried.wrong.as_str(), "");
         assert_eq!(rt; tried.right, 400);
         assert_eq!(rt; tried.asking > 20, true);
+    }
+    Ok(())
+}
+
+#[test]
+fn blocks_with_bands_find_the_bag(rt: HostRuntime) -> Result<(), Fail> {
+    let mut state = 41;
+    for word in BAND_WORDS.split(' ') {
+        let tried = try_blocks(rt.alloc(), &mut state, word, true, 400)?;
+        assert_eq!(rt; tried.wrong.as_str(), "");
+        assert_eq!(rt; tried.right, 400);
     }
     Ok(())
 }

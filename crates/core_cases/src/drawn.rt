@@ -13,6 +13,11 @@ const JOINS_OF_TWO: &str = "a.x=b.x a.x=b.y b.x=a.y b.y=a.y";
 
 const JOINS_OF_THREE: &str = "a.x=b.x b.y=a.y b.x=c.x c.y=b.y c.x=a.y a.x=c.y";
 
+/// The columns of two aliases, and of three.
+const COLUMNS_OF_TWO: &str = "a.x a.y b.x b.y";
+
+const COLUMNS_OF_THREE: &str = "a.x a.y b.x b.y c.x c.y";
+
 /// The next pseudo-random number below a bound that isn't 0 (Knuth's MMIX generator).
 pub fn next(state: &mut u64, below: u64) -> u64
     requires { 0 < below }
@@ -127,12 +132,54 @@ pub fn statement(alloc: Global, state: &mut u64) -> Result<String, Fail> {
     }
     let (columns, joins) = match aliases {
         0 => ("a.x a.y", "a.x=1 a.y=2"),
-        1 | 2 => ("a.x a.y b.x b.y", JOINS_OF_TWO),
-        _ => ("a.x a.y b.x b.y c.x c.y", JOINS_OF_THREE),
+        1 | 2 => (COLUMNS_OF_TWO, JOINS_OF_TWO),
+        _ => (COLUMNS_OF_THREE, JOINS_OF_THREE),
     };
     for place in 0..next(state, 5) {
         text.push_str(if place == 0 { " WHERE " } else { " AND " })?;
         push_condition(&mut text, state, columns, joins)?;
     }
+    Ok(text)
+}
+
+// Two comparisons of a column side by side, with a lower and an upper end: a BETWEEN, the lower end first, or the
+// upper end first and each turned.
+fn push_band(alloc: Global, text: &mut String, state: &mut u64, columns: &str) -> Result<(), Fail> {
+    let own = word(state, columns);
+    let low = word(state, columns);
+    let high = word(state, columns);
+    let band = match next(state, 3) {
+        0 => format!(in alloc; "{own} BETWEEN {low} AND {high}")?,
+        1 => format!(in alloc; "{own}>{low} AND {own}<={high}")?,
+        _ => format!(in alloc; "{high}>{own} AND {low}<={own}")?,
+    };
+    text.push_str(band.as_str())?;
+    Ok(())
+}
+
+/// A statement of two or three aliases with a band, and with at most two conditions before it.
+pub fn banded(alloc: Global, state: &mut u64) -> Result<String, Fail> {
+    let mut text = String::from_str(alloc, "SELECT a.x FROM ")?;
+    text.push_str(word(state, "r s t"))?;
+    text.push_str(" a, ")?;
+    text.push_str(word(state, "r s t"))?;
+    text.push_str(" b")?;
+    let is_of_two = next(state, 2) == 0;
+    if !is_of_two {
+        text.push_str(", ")?;
+        text.push_str(word(state, "r s t"))?;
+        text.push_str(" c")?;
+    }
+    let (columns, joins) = if is_of_two {
+        (COLUMNS_OF_TWO, JOINS_OF_TWO)
+    } else {
+        (COLUMNS_OF_THREE, JOINS_OF_THREE)
+    };
+    text.push_str(" WHERE ")?;
+    for _ in 0..next(state, 3) {
+        push_condition(&mut text, state, columns, joins)?;
+        text.push_str(" AND ")?;
+    }
+    push_band(alloc, &mut text, state, columns)?;
     Ok(text)
 }

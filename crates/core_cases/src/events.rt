@@ -1,5 +1,6 @@
 //! Random events, and what comes of them.
 
+ghost use Rattle.std.specs.Prelude.{◌<◌};
 ghost use Rattle.sq_expr.specs.Fits.{IsFit};
 ghost use Rattle.sq_expr.specs.Reach.{IsReachable};
 
@@ -13,11 +14,18 @@ use std::alloc::Global;
 use std::test::Fail;
 use tuple_span::{Route, Via};
 
+/// Of how many kinds a route is drawn, with a probe by a band as the last one, and without.
+pub const ALL_KINDS: u64 = 7;
+
+pub const NO_BANDS: u64 = 6;
+
 // A route by its numbers, legal or not.
-fn route(state: &mut u64) -> Route {
+fn route(state: &mut u64, kinds: u64) -> Route
+    requires { 0 < kinds }
+{
     let alias = next(state, 3) as u8;
     let conjunct = next(state, 4) as u8;
-    match next(state, 6) {
+    match next(state, kinds) {
         0 => Route::Select(conjunct),
         1 => Route::Build { alias },
         2 => Route::Probe {
@@ -32,9 +40,13 @@ fn route(state: &mut u64) -> Route {
             alias,
             via: Via::Literal(conjunct),
         },
-        _ => Route::Probe {
+        5 => Route::Probe {
             alias,
             via: Via::Equal(conjunct),
+        },
+        _ => Route::Probe {
+            alias,
+            via: Via::Band(conjunct),
         },
     }
 }
@@ -49,8 +61,10 @@ fn key_event(state: &mut u64, asked: usize) -> Event {
     }
 }
 
-/// An event, legal or not, where so many tuples are pending and so many keys asked.
-pub fn event(state: &mut u64, pending: usize, asked: usize) -> Event {
+/// An event, legal or not, where so many tuples are pending and so many keys asked, with a route of so many kinds.
+pub fn event(state: &mut u64, pending: usize, asked: usize, kinds: u64) -> Event
+    requires { 0 < kinds }
+{
     match next(state, 16) {
         0 => Event::Claim {
             alias: next(state, 3) as u8,
@@ -58,7 +72,7 @@ pub fn event(state: &mut u64, pending: usize, asked: usize) -> Event {
         1 | 2 if asked > 0 => key_event(state, asked),
         _ => {
             let place = next(state, (pending as u64).saturating_add(1)) as usize;
-            let route = route(state);
+            let route = route(state, kinds);
             Event::Route { place, route }
         }
     }
@@ -70,7 +84,7 @@ fn drive<F: Predicates>(alloc: Global, core: &mut Core<'_, F>, state: &mut u64) 
         if core.pending().is_empty() && core.ended() {
             return true;
         }
-        let event = event(state, core.pending().len(), core.asked().len());
+        let event = event(state, core.pending().len(), core.asked().len(), ALL_KINDS);
         if core.step(alloc, event) == Err(StepRefused::Memory) {
             return false;
         }

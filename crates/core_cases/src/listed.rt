@@ -47,7 +47,16 @@ const CASES: &str = "\
 | claim.0 build.0.0 equal.0.1.0 fetch.0 fetch.0 select.0.1 end.0 select.0.1 build.0.1 end.0
 1 1 0 1 1 1 0 1 NotLegal 1 0 log 0:0 1:0 1:1 keys 1:1000000:2. found | s s1 s \
 | SELECT name, amt FROM cust c, ord o WHERE c.id = o.cid \
-| claim.0 build.0.0 equal.0.1.0 claim.1 build.0.1 fetch.0 build.1.1 fetch.0 end.0 build.1.1 end.0";
+| claim.0 build.0.0 equal.0.1.0 claim.1 build.0.1 fetch.0 build.1.1 fetch.0 end.0 build.1.1 end.0
+1 1 1 1 1 1 NotLegal 1 1 0 1 0 log 0:0 1:0 2:0 keys found 0,0@2 | s s s \
+| SELECT b.x FROM n a, n b, n c WHERE b.x BETWEEN a.x AND c.x \
+| claim.0 build.0.0 claim.1 build.1.1 claim.2 build.2.2 band.0.1.0 all.2.0 band.2.1.0 all.0.1 all.0.0 all.0.2
+1 1 1 1 NotLegal NotLegal NotLegal 1 NotLegal 0 log 0:0 1:0 keys found | s s s \
+| SELECT b.x FROM n a, n b WHERE b.x >= a.x AND b.x > a.x \
+| claim.0 build.0.0 claim.1 build.1.1 band.1.0.0 band.0.1.0 band.1.0.1 range.1.0.0 band.1.1.0 select.1.1
+1 1 NotLegal log 0:0 keys found | s 1 s \
+| SELECT name FROM cust c, ord o WHERE c.id = o.cid AND o.amt BETWEEN c.id AND c.id \
+| claim.0 build.0.0 band.0.1.1";
 
 // A number of a word, by its place behind the name.
 fn number(word: &str, place: usize) -> u8 {
@@ -62,13 +71,14 @@ fn route_of(name: &str, second: u8, third: u8) -> Route {
         "build" => return Route::Build { alias: second },
         "equal" => Via::Equal(third),
         "range" => Via::Range(third),
+        "band" => Via::Band(third),
         _ => Via::All,
     };
     Route::Probe { alias: second, via }
 }
 
 // An event by its word: `claim.ALIAS`, `fetch.PLACE`, `end.PLACE`, `select.PLACE.CONJUNCT`, `build.PLACE.ALIAS`,
-// `all.PLACE.ALIAS`, and `equal` or `range.PLACE.ALIAS.CONJUNCT`.
+// `all.PLACE.ALIAS`, and `equal`, `range` or `band.PLACE.ALIAS.CONJUNCT`.
 fn event_of(word: &str) -> Event {
     let name = word.split('.').nth(0).unwrap_or("");
     let first = number(word, 1);

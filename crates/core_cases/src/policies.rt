@@ -33,7 +33,10 @@ const CASES: &str = "\
 12 3 6 3 3 | s 1 s s | SELECT name, amt FROM cust c, ord o WHERE c.id = o.cid | v0
 16 4 6 3 3 | s 1 s s | SELECT name, amt FROM cust c, ord o WHERE c.id = o.cid | a0,a1
 17 3 7 3 3 | s s1 s s | SELECT name, amt FROM cust c, ord o WHERE c.id = o.cid | v0
-12 3 6 2 3 | 0 s s s | SELECT name, amt FROM ord o, cust c WHERE o.cid = c.id | v0";
+12 3 6 2 3 | 0 s s s | SELECT name, amt FROM ord o, cust c WHERE o.cid = c.id | v0
+20 4 7 0 8 | s s s s | SELECT p.x FROM ord o, n p WHERE p.x BETWEEN o.cid AND o.amt | w0
+22 4 7 0 8 | s s s s | SELECT p.x FROM ord o, n p WHERE p.x BETWEEN o.cid AND o.amt | v0
+12 3 6 0 3 | s s s s | SELECT a.x FROM n a, n b WHERE b.x BETWEEN a.x AND a.x | w0";
 
 /// Cases under each policy: how many rows are built, keys looked up and combinations found, whichever it is; the ways,
 /// the statement, and the hops that are never passed.
@@ -41,7 +44,8 @@ const BOUNDS: &str = "\
 7 0 3 | s s s s | SELECT name, amt FROM cust c, ord o WHERE c.id = o.cid ORDER BY amt DESC | 4
 8 0 4 | s s s s | SELECT o.oid FROM ord o, ord p WHERE o.cid = p.cid AND o.oid <= p.oid | 5
 6 3 3 | s 1 s s | SELECT name, amt FROM cust c, ord o WHERE c.id = o.cid | 4
-6 2 3 | 0 s s s | SELECT name, amt FROM ord o, cust c WHERE o.cid = c.id | 4";
+6 2 3 | 0 s s s | SELECT name, amt FROM ord o, cust c WHERE o.cid = c.id | 4
+7 0 8 | s s s s | SELECT p.x FROM ord o, n p WHERE p.x BETWEEN o.cid AND o.amt | 5";
 
 /// Runs by a script, each told whole. First what is wanted: the rows of the first two aliases of each combination with
 /// its stamp, in the order of finding; the build log, as alias:row in the order of the stamps; and the looked keys as
@@ -54,7 +58,9 @@ const RUNS: &str = "\
 0,0@1 0,1@3 1,2@5; 0:0 1:0 0:1 1:1 0:2 1:2 1:3; | s s s s | SELECT name, amt FROM cust c, ord o WHERE c.id = o.cid | v0
 0,0@1 0,1@2 1,2@4; 0:0 1:0 1:1 0:1 1:2 0:2; 1:1000000 1:2000000 1:3000000 | s 1 s s \
     | SELECT name, amt FROM cust c, ord o WHERE c.id = o.cid | v0
-0,1@3 1,2@5 0,2@5; 0:0 1:0 0:1 1:1 0:2 1:2; | s s s s | SELECT a.x FROM n a, n b WHERE a.x < b.x | a0,a1";
+0,1@3 1,2@5 0,2@5; 0:0 1:0 0:1 1:1 0:2 1:2; | s s s s | SELECT a.x FROM n a, n b WHERE a.x < b.x | a0,a1
+0,0@1 1,1@3 2,2@5; 0:0 1:0 0:1 1:1 0:2 1:2; | s s s s \
+    | SELECT a.x FROM n a, n b WHERE b.x BETWEEN a.x AND a.x | w0";
 
 /// The policies, as words.
 pub const POLICIES: &str = "lottery pressure greedy v0 a0,a1 b,a1,v0";

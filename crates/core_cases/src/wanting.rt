@@ -8,7 +8,7 @@ ghost use Rattle.sq_expr.specs.Reach.{IsReachable};
 
 use crate::compared::is_bag;
 use crate::drawn::{statement, tables, ways};
-use crate::events::event;
+use crate::events::{NO_BANDS, event};
 use crate::policies::keys_by_policy;
 use case_kit::{block_of_case, catalogue_of_lines};
 use eddy_core::{Core, StepRefused};
@@ -82,7 +82,7 @@ fn drive<F: Predicates>(
         if core.pending().is_empty() && core.ended() {
             return Ok(true);
         }
-        let event = event(state, core.pending().len(), core.asked().len());
+        let event = event(state, core.pending().len(), core.asked().len(), NO_BANDS);
         let before = sum_of(core);
         if core.step(alloc, event) == Err(StepRefused::Memory) {
             if sum_of(core) != before {

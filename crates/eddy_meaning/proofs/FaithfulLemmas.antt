@@ -1,8 +1,8 @@
 -- What comes of a route of a faithful tuple is faithful, and a faithful tuple stays so where the log grows.
 use Rattle.std.proofs.Common.{◌≡◌, ◌⊎◌, inl, inr, ⊎_elim, ℕ, zero, suc, ◌+◌, ◌<◌, ◌≤◌, Bool, true, false, cond, List, [], ◌∷◌, ◌++◌, length, get_or, set, take, Option, Some, None, refl, ap, sym, ◌∙◌, arith, subst}
-use Rattle.std.specs.Prelude.{◌&&◌, ◌==◌, filter, All, slice_get, slice_set, slice_index}
+use Rattle.std.specs.Prelude.{◌&&◌, ◌==◌, filter, All, Contains, slice_get, slice_set, slice_index}
 use Rattle.std.specs.Option.{unwrap_or}
-use Rattle.std.proofs.lemmas.Bool.{cases_eq, or_right, and_from, eq-eqb}
+use Rattle.std.proofs.lemmas.Bool.{cases_eq, or_right, and_from, and_parts, eq-eqb}
 use Rattle.std.proofs.lemmas.Option.{slice_get_within}
 use Rattle.std.proofs.lemmas.List.{length-map, length-set, take-append-le}
 use Rattle.std.proofs.lemmas.List.Elements.{All-nil, All-cons, All-map, All-filter, filter_passes}
@@ -23,13 +23,13 @@ use Rattle.eddy_meaning.specs.Tuple.{Tuple, CoversAll, is_true_of}
 use Rattle.tuple_span.specs.Parts.{rows_of_parts}
 use Rattle.tuple_span.specs.Parts.{part_of}
 use Rattle.eddy_meaning.specs.Log.{IsBuildLog, IsInRange, rows_built}
-use Rattle.eddy_meaning.specs.Route.{came_of_select, came_of_probe, hopped, mark_done, mark_via, joined, with_stamp, holds_at}
+use Rattle.eddy_meaning.specs.Route.{came_of_select, came_of_probe, hopped, mark_done, mark_all, joined, with_stamp, holds_at, hold_all}
 use Rattle.eddy_meaning.specs.Faithful.{IsFaithful, StandsAt, IsCovered}
 use Rattle.tuple_span.specs.Parts.{IsSingle}
 use Rattle.eddy_meaning.proofs.LogLemmas.{is_built-next, is_built-front, is_built-whole, rows_are_built, place_of_built, at_longer}
-use Rattle.eddy_meaning.proofs.MatchLemmas.{All-at, row_of_part, truth_shared}
+use Rattle.eddy_meaning.proofs.MatchLemmas.{All-at, row_of_part, truth_shared, Contains-here, Contains-there, Contains-nil, Contains-cons_cases}
 use Rattle.eddy_meaning.proofs.RouteLemmas.{holds-at}
-use Rattle.eddy_meaning.proofs.SoundLemmas.{joined_part, kept_part, done_more, IsSound-mark, IsSound-mark_via, IsSound-build, IsSound-joined}
+use Rattle.eddy_meaning.proofs.SoundLemmas.{joined_part, kept_part, done_more, IsSound-hopped, IsSound-mark, IsSound-build, IsSound-joined}
 
 -- a conjunct that is True of parts that cover it
 pub record IsHeld (gives : ℕ → Value → Value → Truth) (block : Block) (tables : List Relation) (parts : List (Option ℕ)) (p : ℕ) : Type 0 where
@@ -55,6 +55,20 @@ module _ (gives : ℕ → Value → Value → Truth) (block : Block) (tables : L
     stands = λ stamp e. StandsAt-append log more t.parts stamp (h.stands stamp e);
   }
 
+  -- where several conjuncts hold, each does
+  pub all_hold : (parts : List (Option ℕ)) (ps : List ℕ) → hold_all gives block tables parts ps ≡ true → (p : ℕ) → Contains ps p → holds_at gives block tables parts p ≡ true
+  all_hold parts [] h p m = absurd (Contains-nil p m)
+  all_hold parts (q ∷ ps) h p m =
+      let both = and_parts (holds_at gives block tables parts q) (hold_all gives block tables parts ps) h in
+      ⊎_elim (λ same. ap (holds_at gives block tables parts) (sym same) ∙ both.0) (λ rest. all_hold parts ps both.1 p rest) (Contains-cons_cases p q ps m)
+
+  -- and the other way round
+  pub hold_each : (parts : List (Option ℕ)) (ps : List ℕ) → ((p : ℕ) → Contains ps p → holds_at gives block tables parts p ≡ true) → hold_all gives block tables parts ps ≡ true
+  hold_each parts [] h = refl
+  hold_each parts (q ∷ ps) h =
+      and_from (holds_at gives block tables parts q) (hold_all gives block tables parts ps) (h q (Contains-here q ps))
+      (hold_each parts ps (λ p m. h p (Contains-there p q ps m)))
+
   module _ (kinds : ℕ → Option Kinds) (fits : IsFit kinds tables block) where
     -- what is True of a tuple is True of it with a row more
     pub truth_more : (parts : List (Option ℕ)) (alias row p : ℕ) (c : Conjunct) → part_of parts alias ≡ None → length parts ≡ 12 → slice_get block.conjuncts p ≡ Some c → CoversAll parts c.span
@@ -71,8 +85,11 @@ module _ (gives : ℕ → Value → Value → Truth) (block : Block) (tables : L
         (λ a r low e. row_of_part more a r (kept_part parts alias row a r lacks e)) covers) in
         sym same ∙ holds
 
+    pub IsFaithful-hopped : (log : List Built) (t : Tuple) → IsFaithful gives block tables log t → IsFaithful gives block tables log (hopped t)
+    IsFaithful-hopped log t h = record { sound = IsSound-hopped block tables t h.sound; holds = h.holds; stands = h.stands }
+
     -- a conjunct that holds may be marked
-    pub IsFaithful-mark : (log : List Built) (t : Tuple) (p : ℕ) → IsFaithful gives block tables log t → IsHeld gives block tables t.parts p → IsFaithful gives block tables log (hopped (mark_done p t))
+    pub IsFaithful-mark : (log : List Built) (t : Tuple) (p : ℕ) → IsFaithful gives block tables log t → IsHeld gives block tables t.parts p → IsFaithful gives block tables log (mark_done p t)
     IsFaithful-mark log t p h held = record {
       sound = IsSound-mark block tables t p h.sound held.covered;
       holds = λ q c e at. ⊎_elim
@@ -86,24 +103,23 @@ module _ (gives : ℕ → Value → Value → Truth) (block : Block) (tables : L
         some_conjunct : (c d : Conjunct) → Some c ≡ Some d → c ≡ d
         some_conjunct c d e = cc
 
-    pub IsFaithful-mark_via : (log : List Built) (t : Tuple) (by : Option ℕ) → IsFaithful gives block tables log t → ((p : ℕ) → by ≡ Some p → IsHeld gives block tables t.parts p)
-        → IsFaithful gives block tables log (hopped (mark_via by t))
-    IsFaithful-mark_via log t None h held = record {
-      sound = IsSound-mark_via block tables t None h.sound (λ p e. (held p e).covered);
-      holds = h.holds;
-      stands = h.stands;
-    }
-    IsFaithful-mark_via log t (Some p) h held = IsFaithful-mark log t p h (held p refl)
+    -- and so may several
+    pub IsFaithful-mark_all : (log : List Built) (t : Tuple) (by : List ℕ) → IsFaithful gives block tables log t → ((p : ℕ) → Contains by p → IsHeld gives block tables t.parts p)
+        → IsFaithful gives block tables log (mark_all by t)
+    IsFaithful-mark_all log t [] h held = h
+    IsFaithful-mark_all log t (p ∷ ps) h held =
+        IsFaithful-mark_all log (mark_done p t) ps (IsFaithful-mark log t p h (held p (Contains-here p ps))) (λ q m. held q (Contains-there q p ps m))
 
     -- a selection
     pub IsFaithful-select : (log : List Built) (t : Tuple) (p : ℕ) (c : Conjunct) → slice_get block.conjuncts p ≡ Some c → CoversAll t.parts c.span
         → IsFaithful gives block tables log t → All (IsFaithful gives block tables log) (came_of_select gives block tables t p)
-    IsFaithful-select log t p c at covers h = by (holds_at gives block tables t.parts (Some p)) refl
+    IsFaithful-select log t p c at covers h = by (holds_at gives block tables t.parts p) refl
       where
-        by : (b : Bool) → holds_at gives block tables t.parts (Some p) ≡ b → All (IsFaithful gives block tables log) (cond b (hopped (mark_done p t) ∷ []) [])
+        by : (b : Bool) → holds_at gives block tables t.parts p ≡ b → All (IsFaithful gives block tables log) (cond b (hopped (mark_done p t) ∷ []) [])
         by true e =
             All-cons (IsFaithful gives block tables log) (hopped (mark_done p t)) []
-            (IsFaithful-mark log t p h record { covered = record { conjunct = c; at = at; covers = covers }; true' = sym (holds-at gives block tables t.parts p c at) ∙ e })
+            (IsFaithful-hopped log (mark_done p t)
+            (IsFaithful-mark log t p h record { covered = record { conjunct = c; at = at; covers = covers }; true' = sym (holds-at gives block tables t.parts p c at) ∙ e }))
             (All-nil (IsFaithful gives block tables log))
         by false e = All-nil (IsFaithful gives block tables log)
 
@@ -140,14 +156,14 @@ module _ (gives : ℕ → Value → Value → Truth) (block : Block) (tables : L
                 none_is_some e = cc
 
     -- a probe
-    pub IsFaithful-probe : (log : List Built) (t : Tuple) (stamp alias : ℕ) (by : Option ℕ) → IsBuildLog block tables log → t.stamp ≡ Some stamp
+    pub IsFaithful-probe : (log : List Built) (t : Tuple) (stamp alias : ℕ) (by : List ℕ) → IsBuildLog block tables log → t.stamp ≡ Some stamp
         → part_of t.parts alias ≡ None → alias < length block.aliases
-        → ((p : ℕ) → by ≡ Some p → (c : Conjunct) × (slice_get block.conjuncts p ≡ Some c) × ((row : ℕ) → CoversAll (slice_set t.parts alias (Some row)) c.span))
+        → ((p : ℕ) → Contains by p → (c : Conjunct) × (slice_get block.conjuncts p ≡ Some c) × ((row : ℕ) → CoversAll (slice_set t.parts alias (Some row)) c.span))
         → IsFaithful gives block tables log t → All (IsFaithful gives block tables log) (came_of_probe gives block tables log t stamp alias by)
     IsFaithful-probe log t stamp alias by built has lacks in' meets h =
         let rows = rows_built alias (take stamp log) in
-        let passes = λ (row : ℕ). holds_at gives block tables (slice_set t.parts alias (Some row)) by in
-        All-map (IsFaithful gives block tables log) (λ (row : ℕ). hopped (mark_via by (joined alias row t))) (filter passes rows)
+        let passes = λ (row : ℕ). hold_all gives block tables (slice_set t.parts alias (Some row)) by in
+        All-map (IsFaithful gives block tables log) (λ (row : ℕ). hopped (mark_all by (joined alias row t))) (filter passes rows)
         (λ k d low. one (get_or (filter passes rows) k d) (filter_passes passes rows k d low)
         (All-filter passes (λ (row : ℕ). is_built (take stamp log) alias row ≡ true) rows (rows_are_built alias (take stamp log)) k d low))
       where
@@ -187,15 +203,16 @@ module _ (gives : ℕ → Value → Value → Truth) (block : Block) (tables : L
                   rw (here.0, here.1) up) (λ there. k.each a r there.1) (joined_part t.parts alias row a r wide e);
             }
 
-        one : (row : ℕ) → holds_at gives block tables (slice_set t.parts alias (Some row)) by ≡ true → is_built (take stamp log) alias row ≡ true
-            → IsFaithful gives block tables log (hopped (mark_via by (joined alias row t)))
+        one : (row : ℕ) → hold_all gives block tables (slice_set t.parts alias (Some row)) by ≡ true → is_built (take stamp log) alias row ≡ true
+            → IsFaithful gives block tables log (hopped (mark_all by (joined alias row t)))
         one row holds before =
-            IsFaithful-mark_via log (joined alias row t) by (with_row row before) (λ p e.
+            IsFaithful-hopped log (mark_all by (joined alias row t))
+            (IsFaithful-mark_all log (joined alias row t) by (with_row row before) (λ p e.
             let m = meets p e in
             record {
               covered = record { conjunct = m.0; at = m.1; covers = m.2 row };
-              true' = sym (holds-at gives block tables (slice_set t.parts alias (Some row)) p m.0 m.1) ∙ ap (holds_at gives block tables (slice_set t.parts alias (Some row))) (sym e) ∙ holds;
-            })
+              true' = sym (holds-at gives block tables (slice_set t.parts alias (Some row)) p m.0 m.1) ∙ all_hold (slice_set t.parts alias (Some row)) by holds p e;
+            }))
 
 at_of_front : (log : List Built) (n k : ℕ) (b : Built) → slice_get (take n log) k ≡ Some b → (k < n) × (slice_get log k ≡ Some b)
 at_of_front [] zero k b e = absurd cc

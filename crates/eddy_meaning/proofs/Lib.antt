@@ -20,3 +20,4 @@ pub mod SharedLemmas
 pub mod PermutationLemmas
 pub mod TupleCounts
 mod WorkedKeys
+mod WorkedBands

@@ -4,6 +4,7 @@ pub mod Entries
 pub mod Owed
 pub mod Faithful
 pub mod Keys
+pub mod Sides
 pub mod Route
 pub mod Routes
 pub mod Kept

@@ -3,7 +3,7 @@ use Rattle.std.specs.Prelude.{ℕ, ◌*◌, ◌/◌, ◌-◌, ◌^◌, ◌<◌, 
 
 -- a lane's number
 abbrev pub IsLane : ℕ → Type 0
-IsLane lane = lane < 1800
+IsLane lane = lane < 2376
 
 -- rounded down, 0 where there is no whole, and at most what 64 bits hold
 abbrev pub percent : ℕ → ℕ → ℕ

@@ -108,7 +108,7 @@ fn has_count(counts: &[u64; 10]) -> bool
 /// There is no memory for their list.
 pub fn figures_of<P: Policy>(alloc: Global, counter: &Counter<P>) -> Result<Vec<Row>, AllocError>
     ensures lanes { IfOk result (λ rows. map figures.row_lane rows.items
-        ≡ figures.taken_lanes counter.now.given 1800) }
+        ≡ figures.taken_lanes counter.now.given 2376) }
     ensures counted { IfOk result (λ rows. All (figures.IsCounted counter.now) rows.items) }
 {
     let mut rows = Vec::new(alloc);

@@ -21,6 +21,7 @@ impl<'t> Scope<'t> {
             Lane::Equal(alias, number)
             | Lane::Literal(alias, number)
             | Lane::Range(alias, number) => self.probe_by(alloc, alias, number),
+            Lane::Band(alias, number) => self.probe_by_band(alloc, alias, number),
         }
     }
 
@@ -36,16 +37,29 @@ impl<'t> Scope<'t> {
         let what = format!(in alloc; "probe {name} by")?;
         self.deed_by(alloc, what.as_str(), number)
     }
+
+    // A probe of an alias by a band.
+    fn probe_by_band(
+        &self,
+        alloc: Global,
+        alias: usize,
+        number: usize,
+    ) -> Result<String, AllocError> {
+        let first = self.probe_by(alloc, alias, number)?;
+        let what = format!(in alloc; "{first} AND")?;
+        self.deed_by(alloc, what.as_str(), number.saturating_add(1))
+    }
 }
 
-// The conjunct that a lane goes by.
-fn conjunct_of(lane: Lane) -> Option<usize> {
+// Whether a lane goes by a conjunct.
+fn goes_by(lane: Lane, conjunct: usize) -> bool {
     match lane {
-        Lane::Build(_) | Lane::All(_) => None,
+        Lane::Build(_) | Lane::All(_) => false,
         Lane::Select(number)
         | Lane::Equal(_, number)
         | Lane::Literal(_, number)
-        | Lane::Range(_, number) => Some(number),
+        | Lane::Range(_, number) => number == conjunct,
+        Lane::Band(_, number) => number == conjunct || number.saturating_add(1) == conjunct,
     }
 }
 
@@ -58,6 +72,7 @@ pub(crate) fn word_of(alloc: Global, lane: Lane) -> Result<String, AllocError> {
         Lane::Equal(_, number) | Lane::Literal(_, number) | Lane::Range(_, number) => {
             format!(in alloc; "v{number}")
         }
+        Lane::Band(_, number) => format!(in alloc; "w{number}"),
     }
 }
 
@@ -126,7 +141,7 @@ fn met_by(rows: &[Row], number: usize) -> (u64, u64) {
     let mut given: u64 = 0;
     let mut came: u64 = 0;
     for row in rows {
-        if conjunct_of(row.lane) == Some(number) {
+        if goes_by(row.lane, number) {
             given = given.saturating_add(sum_of(&row.given));
             came = came.saturating_add(sum_of(&row.came));
         }

@@ -36,7 +36,7 @@ use Rattle.eddy_meaning.specs.Log.{IsInRange, IsBuildLog, rows_built}
 use Rattle.eddy_meaning.specs.Faithful.{IsFaithful, is_finished}
 use Rattle.eddy_meaning.specs.Hops.{HasHops, hop_bound}
 use Rattle.eddy_meaning.specs.Keys.{Mark, has_key, value_at, rows_of_key}
-use Rattle.eddy_meaning.specs.Route.{single, hopped, mark_via, mark_done, with_stamp, joined, holds_at, conjunct_of, came, came_of_build, probed}
+use Rattle.eddy_meaning.specs.Route.{single, hopped, mark_all, mark_done, with_stamp, joined, holds_at, hold_all, conjuncts_of, came, came_of_build, probed}
 use Rattle.eddy_meaning.specs.Act.{unfinished, pending_after}
 use Rattle.eddy_meaning.proofs.ListLemmas.{AreDistinct}
 use Rattle.eddy_meaning.proofs.LogLemmas.{AreDistinct-rows_built, HasNoRepeat-take}
@@ -191,7 +191,7 @@ module _ (block : Block) (tables : List Relation) where
 
   -- no more tuples come of a route than the longest table has rows
   few_came : (gives : ℕ → Value → Value → Truth) (log : List Built) (t : Tuple) (route : Route) → IsBuildLog block tables log → 1 ≤ R → length (came gives block tables log t route) ≤ R
-  few_came gives log t (Select p) built some = by (holds_at gives block tables t.parts (Some p))
+  few_came gives log t (Select p) built some = by (holds_at gives block tables t.parts p)
     where
       by : (b : Bool) → length (cond b (hopped (mark_done p t) ∷ []) []) ≤ R
       by true = some
@@ -207,12 +207,12 @@ module _ (block : Block) (tables : List Relation) where
       by (Some row) = one (is_built log alias row)
   few_came gives log t (Probe alias v) built some = by t.stamp
     where
-      by : (o : Option ℕ) → length (option_map_or (λ stamp. probed gives block tables (rows_built alias (take stamp log)) t alias (conjunct_of v)) o []) ≤ R
+      by : (o : Option ℕ) → length (option_map_or (λ stamp. probed gives block tables (rows_built alias (take stamp log)) t alias (conjuncts_of v)) o []) ≤ R
       by None = omega arith
       by (Some stamp) =
-          let test = λ (row : ℕ). holds_at gives block tables (slice_set t.parts alias (Some row)) (conjunct_of v) in
+          let test = λ (row : ℕ). hold_all gives block tables (slice_set t.parts alias (Some row)) (conjuncts_of v) in
           let rows = rows_built alias (take stamp log) in
-          let long = length-map (filter test rows) (λ (row : ℕ). hopped (mark_via (conjunct_of v) (joined alias row t))) in
+          let long = length-map (filter test rows) (λ (row : ℕ). hopped (mark_all (conjuncts_of v) (joined alias row t))) in
           omega (arith, long, length_filter test rows, few_rows alias stamp log built)
 
   -- what goes on of a routing is worth less than the routed tuple

@@ -5,7 +5,7 @@ ghost use Rattle.sq_value.specs.declared.value.ColType.TheVariants as kind;
 ghost use Rattle.group_cases.specs.Ones.{Fall, IsOne, case_columns};
 
 use bag_meaning::Combo;
-use sq_expr::{Access, AggKind, AliasUse, Block, Cell, ColumnOf, Shape, ShapeOrder, SortOn};
+use sq_expr::{Access, AggKind, AliasUse, Block, Cell, ColumnOf, Conjuncts, Shape, ShapeOrder, SortOn};
 use sq_value::{ColType, Column, Dec, Memory, SortWay, SqText, Table, Tables, Value};
 use sqlite_items::Items;
 use std::alloc::Global;
@@ -108,7 +108,7 @@ pub(crate) fn one_block(alloc: Global) -> Result<Block, Memory>
     let item = AliasUse { table: 0, access };
     Ok(Block {
         aliases: Items::from_vec(vec![in alloc; item]?),
-        conjuncts: Items::new(alloc),
+        conjuncts: Conjuncts::new(alloc, Items::new(alloc))?,
         output: Items::new(alloc),
         order: Items::new(alloc),
     })

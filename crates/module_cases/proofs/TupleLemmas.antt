@@ -33,9 +33,7 @@ in_table block tables alias row u table used is low = (
 -- a conjunct whose selection is legal may be marked
 pub mark_sound : (block : Block) (tables : List Relation) (t : Tuple) (p : ℕ) → IsSound block tables t → IsLegalSelect block t p
     → IsSound block tables (mark_done p t)
-mark_sound block tables t p h legal =
-    let h' = IsSound-mark block tables t p h record { conjunct = legal.conjunct; at = legal.at; covers = legal.covers } in
-    record { wide = h'.wide; in_range = h'.in_range; done = h'.done; single = h'.single }
+mark_sound block tables t p h legal = IsSound-mark block tables t p h record { conjunct = legal.conjunct; at = legal.at; covers = legal.covers }
 
 -- a row may be joined to a tuple with a stamp, whatever its own stamp
 pub join_sound : (block : Block) (tables : List Relation) (t : Tuple) (alias row s : ℕ) → length block.aliases ≤ 12

@@ -61,7 +61,14 @@ const ALL_KINDS: &str =
     "SELECT o.oid FROM ord o, cust c, n a WHERE 1 = 1 AND 2 >= c.id AND c.id = o.cid AND \
     c.name = 'Ada' AND o.cid <> c.id AND o.cid + 1 = c.id AND NOT o.amt = c.id AND NULL = c.id AND c.id = c.id";
 
-fn groups() -> [Group; 9] {
+/// A band; the same with its sides exchanged; and two lower ends, which are none.
+const BAND: &str = "SELECT b.x FROM n a, n b, n c WHERE b.x BETWEEN a.x AND c.x";
+
+const TURNED: &str = "SELECT o.oid FROM ord o, ord p, n a WHERE o.cid <= a.x AND p.cid > a.x";
+
+const LOWER: &str = "SELECT b.x FROM n a, n b, n c WHERE b.x >= a.x AND c.x < b.x";
+
+fn groups() -> [Group; 14] {
     [
         Group {
             query: JOIN,
@@ -134,6 +141,38 @@ probe 0 all, probe 0 equal 2, probe 2 all | 1:0 @9 +8 +7 +3 +1 +0
 select 0, probe 0 all, probe 1 all, probe 1 range 1, probe 1 literal 3, probe 1 literal 7 | 2:2 @9",
         },
         Group {
+            query: BAND,
+            accesses: "s s s",
+            bound: 6,
+            alias: 0,
+            builds: &[],
+            asked: Asked::Routes,
+            cases: "\
+probe 1 all, probe 1 range 0, probe 2 all | 0:0 @0
+probe 0 all, probe 0 range 0, probe 2 all, probe 2 range 1 | 1:0 @0
+probe 1 all, probe 1 range 0, probe 1 range 1, probe 1 band 0 | 0:0 @3 2:1
+select 0, select 1 | 0:0 @3 2:1 1:0
+none | 0:0 @3 2:1 1:0 +0 +1",
+        },
+        Group {
+            query: TURNED,
+            accesses: "s s s",
+            bound: 6,
+            alias: 0,
+            builds: &[],
+            asked: Asked::Routes,
+            cases: "probe 2 all, probe 2 range 0, probe 2 range 1, probe 2 band 0 | 0:0 @3 1:1",
+        },
+        Group {
+            query: LOWER,
+            accesses: "s s s",
+            bound: 6,
+            alias: 0,
+            builds: &[],
+            asked: Asked::Routes,
+            cases: "probe 1 all, probe 1 range 0, probe 1 range 1 | 0:0 @3 2:1",
+        },
+        Group {
             query: JOIN,
             accesses: "s s s",
             bound: 4,
@@ -172,6 +211,37 @@ all 0:0 1:0 @1 hops 3; range 0 none | 0:0 @1
 all 0:0 1:0 @2 hops 3; range 0 none | 0:0 @2
 all 0:0 1:0 @3 hops 3, 0:0 1:1 @3 hops 3; range 0 0:0 1:1 @3 +0 hops 3 | 0:0 @3
 all none; range 0 none | 0:2 @0",
+        },
+        Group {
+            query: BAND,
+            accesses: "s s s",
+            bound: 6,
+            alias: 1,
+            builds: &[(0, 0), (1, 2), (2, 4)],
+            asked: Asked::Probes,
+            cases: "\
+all 0:0 1:0 2:1 @5 hops 3, 0:0 1:1 2:1 @5 hops 3, 0:0 1:2 2:1 @5 hops 3; \
+range 0 0:0 1:0 2:1 @5 +0 hops 3, 0:0 1:1 2:1 @5 +0 hops 3, 0:0 1:2 2:1 @5 +0 hops 3; \
+range 1 0:0 1:0 2:1 @5 +1 hops 3, 0:0 1:1 2:1 @5 +1 hops 3; \
+band 0 0:0 1:0 2:1 @5 +0 +1 hops 3, 0:0 1:1 2:1 @5 +0 +1 hops 3 | 0:0 @5 2:1
+all 0:1 1:0 2:1 @2 hops 3; range 0 none; range 1 0:1 1:0 2:1 @2 +1 hops 3; band 0 none | 0:1 @2 2:1
+all 0:1 1:0 2:1 @3 hops 3, 0:1 1:1 2:1 @3 hops 3; range 0 0:1 1:1 2:1 @3 +0 hops 3; \
+range 1 0:1 1:0 2:1 @3 +1 hops 3, 0:1 1:1 2:1 @3 +1 hops 3; band 0 0:1 1:1 2:1 @3 +0 +1 hops 3 | 0:1 @3 2:1",
+        },
+        Group {
+            query: TURNED,
+            accesses: "s s s",
+            bound: 6,
+            alias: 2,
+            builds: &[(0, 0), (1, 2)],
+            asked: Asked::Probes,
+            cases: "\
+all 0:0 1:2 2:0 @5 hops 3, 0:0 1:2 2:1 @5 hops 3; range 0 0:0 1:2 2:0 @5 +0 hops 3, 0:0 1:2 2:1 @5 +0 hops 3; \
+range 1 0:0 1:2 2:0 @5 +1 hops 3; band 0 0:0 1:2 2:0 @5 +0 +1 hops 3 | 0:0 @5 1:2
+all 0:0 1:3 2:0 @5 hops 3, 0:0 1:3 2:1 @5 hops 3; range 0 0:0 1:3 2:0 @5 +0 hops 3, 0:0 1:3 2:1 @5 +0 hops 3; \
+range 1 none; band 0 none | 0:0 @5 1:3
+all 0:3 1:2 2:0 @5 hops 3, 0:3 1:2 2:1 @5 hops 3; range 0 none; \
+range 1 0:3 1:2 2:0 @5 +1 hops 3; band 0 none | 0:3 @5 1:2",
         },
         Group {
             query: JOIN,
@@ -243,13 +313,14 @@ fn probe_text(
     block: &Block,
     tables: &Tables,
     alias: u8,
-    stem: &Stem<'_, NoPredicates>,
+    stem: &mut Stem<'_, NoPredicates>,
     tuple: &Tuple,
     route: Route,
 ) -> Result<String, Fail>
-    requires of { IsModuleOf block.now tables.now alias stem.now }
+    requires of { IsModuleOf block.now tables.now alias stem.old }
     requires sound { IsSound block.now tables.now tuple.now }
     requires legal { IsLegal block.now tuple.now route }
+    ensures { IsModuleOf block.now tables.now alias stem.new }
 {
     match route {
         Route::Probe { alias: at, via } if at == alias => {
@@ -268,13 +339,14 @@ fn probes_answer(
     block: &Block,
     tables: &Tables,
     alias: u8,
-    stem: &Stem<'_, NoPredicates>,
+    stem: &mut Stem<'_, NoPredicates>,
     tuple: &Tuple,
     legal: &[Route],
 ) -> Result<String, Fail>
-    requires of { IsModuleOf block.now tables.now alias stem.now }
+    requires of { IsModuleOf block.now tables.now alias stem.old }
     requires sound { IsSound block.now tables.now tuple.now }
     requires legal { (route : Way) → Contains legal.now route → IsLegal block.now tuple.now route }
+    ensures { IsModuleOf block.now tables.now alias stem.new }
 {
     let mut text = String::new(alloc);
     for route in legal {
@@ -292,11 +364,12 @@ fn answer(
     block: &Block,
     tables: &Tables,
     group: &Group,
-    stem: &Stem<'_, NoPredicates>,
+    stem: &mut Stem<'_, NoPredicates>,
     text: &str,
 ) -> Result<String, Fail>
     requires given { IsGiven tables.now block.now }
-    requires of { IsModuleOf block.now tables.now group.now.alias stem.now }
+    requires of { IsModuleOf block.now tables.now group.now.alias stem.old }
+    ensures { IsModuleOf block.now tables.now group.now.alias stem.new }
 {
     let Some(tuple) = tuple_of(block, tables, text) else {
         return Ok(String::from_str(alloc, "no tuple")?);
@@ -316,10 +389,11 @@ fn wrong_case(
     block: &Block,
     tables: &Tables,
     group: &Group,
-    stem: &Stem<'_, NoPredicates>,
+    stem: &mut Stem<'_, NoPredicates>,
 ) -> Result<String, Fail>
     requires given { IsGiven tables.now block.now }
-    requires of { IsModuleOf block.now tables.now group.now.alias stem.now }
+    requires of { IsModuleOf block.now tables.now group.now.alias stem.old }
+    ensures { IsModuleOf block.now tables.now group.now.alias stem.new }
 {
     for line in group.cases.lines() {
         let (want, case) = line.split_once(" | ").unwrap_or(("no bar", ""));
@@ -362,7 +436,7 @@ fn wrong_over(alloc: Global, block: &Block, tables: &Tables, group: &Group) -> R
     if !enter_all(block, tables, group, &mut stem) {
         return Ok(String::from_str(alloc, "a build that can't be")?);
     }
-    wrong_case(alloc, block, tables, group, &stem)
+    wrong_case(alloc, block, tables, group, &mut stem)
 }
 
 fn wrong_of(alloc: Global, group: &Group) -> Result<String, Fail> {

@@ -53,13 +53,14 @@ pub fn probed(
     block: &Block,
     tables: &Tables,
     alias: u8,
-    stem: &Stem<'_, NoPredicates>,
+    stem: &mut Stem<'_, NoPredicates>,
     tuple: &Tuple,
     via: Via,
 ) -> Result<Vec<Tuple>, Memory>
-    requires of { IsModuleOf block.now tables.now alias stem.now }
+    requires of { IsModuleOf block.now tables.now alias stem.old }
     requires sound { IsSound block.now tables.now tuple.now }
     requires legal { IsLegal block.now tuple.now (Probe alias via) }
+    ensures { stem.new ≡ stem.old }
 {
     let _block = block;
     let _tables = tables;

@@ -2,7 +2,7 @@
 //!
 //! Each alias of a block has a module of either kind, with rows built in random order at rising stamps. Each is probed
 //! with each row of the other aliases at each stamp, sometimes with a third row joined and conjuncts done, by each
-//! route that is legal.
+//! route that is legal. So it is once more after more rows were built, when indexes are open.
 
 ghost use Rattle.std.specs.Prelude.{◌≡◌, ℕ, ◌<◌, length, Contains, IfOk};
 ghost use Rattle.tuple_span.specs.declared.route.Route.{Route as Way};
@@ -22,7 +22,7 @@ use sq_value::{NoPredicates, Tables};
 use std::alloc::Global;
 use std::test::Fail;
 use stem_module::Stem;
-use tuple_span::{Route, Tuple};
+use tuple_span::{Route, Tuple, Via};
 
 mod words;
 
@@ -36,6 +36,7 @@ pub struct Draw {
     blocks: u32,
     equal: u64,
     different: u64,
+    bands: u64,
 }
 
 impl Draw {
@@ -49,7 +50,10 @@ impl Draw {
     }
 
     // Counts a probe, whether both modules answered the same.
-    fn count(&mut self, agrees: bool) {
+    fn count(&mut self, via: Via, agrees: bool) {
+        if let Via::Band(_) = via {
+            self.bands = self.bands.saturating_add(1);
+        }
         if agrees {
             self.equal = self.equal.saturating_add(1);
         } else {
@@ -98,22 +102,23 @@ fn try_route(
     alloc: Global,
     block: &Block,
     tables: &Tables,
-    twin: &Twin<'_>,
+    twin: &mut Twin<'_>,
     tuple: &Tuple,
     route: Route,
     draw: &mut Draw,
 ) -> Result<(), Fail>
     requires given { IsGiven tables.now block.now }
-    requires of { IsModuleOf block.now tables.now twin.now.list.alias twin.now.stem }
+    requires of { IsModuleOf block.now tables.now twin.old.list.alias twin.old.stem }
     requires sound { IsSound block.now tables.now tuple.now }
     requires legal { IsLegal block.now tuple.now route }
+    ensures { IsModuleOf block.now tables.now twin.new.list.alias twin.new.stem }
 {
     let own = twin.list.alias;
     match route {
         Route::Probe { alias, via } if alias == own => {
-            let found = probed(alloc, block, tables, alias, &twin.stem, tuple, via)?;
+            let found = probed(alloc, block, tables, alias, &mut twin.stem, tuple, via)?;
             let wanted = twin.list.probe(alloc, block, tables, tuple, via)?;
-            draw.count(are_alike(found.as_slice(), wanted.as_slice()));
+            draw.count(via, are_alike(found.as_slice(), wanted.as_slice()));
             Ok(())
         }
         _ => Ok(()),
@@ -125,15 +130,16 @@ fn try_routes(
     alloc: Global,
     block: &Block,
     tables: &Tables,
-    twin: &Twin<'_>,
+    twin: &mut Twin<'_>,
     tuple: &Tuple,
     legal: &[Route],
     draw: &mut Draw,
 ) -> Result<(), Fail>
     requires given { IsGiven tables.now block.now }
-    requires of { IsModuleOf block.now tables.now twin.now.list.alias twin.now.stem }
+    requires of { IsModuleOf block.now tables.now twin.old.list.alias twin.old.stem }
     requires sound { IsSound block.now tables.now tuple.now }
     requires legal { (route : Way) → Contains legal.now route → IsLegal block.now tuple.now route }
+    ensures { IsModuleOf block.now tables.now twin.new.list.alias twin.new.stem }
 {
     for route in legal {
         try_route(alloc, block, tables, twin, tuple, *route, draw)?;
@@ -172,14 +178,15 @@ fn try_stamp(
     alloc: Global,
     block: &Block,
     tables: &Tables,
-    twin: &Twin<'_>,
+    twin: &mut Twin<'_>,
     arrived: &Tuple,
     stamp: u64,
     draw: &mut Draw,
 ) -> Result<(), Fail>
     requires given { IsGiven tables.now block.now }
-    requires of { IsModuleOf block.now tables.now twin.now.list.alias twin.now.stem }
+    requires of { IsModuleOf block.now tables.now twin.old.list.alias twin.old.stem }
     requires sound { IsSound block.now tables.now arrived.now }
+    ensures { IsModuleOf block.now tables.now twin.new.list.alias twin.new.stem }
 {
     let Some(built) = stepped(block, tables, arrived, Step::Stamp(stamp)) else {
         return Ok(());
@@ -194,14 +201,15 @@ fn try_row(
     alloc: Global,
     block: &Block,
     tables: &Tables,
-    twin: &Twin<'_>,
+    twin: &mut Twin<'_>,
     alias: u8,
     row: u32,
     last: u64,
     draw: &mut Draw,
 ) -> Result<(), Fail>
     requires given { IsGiven tables.now block.now }
-    requires of { IsModuleOf block.now tables.now twin.now.list.alias twin.now.stem }
+    requires of { IsModuleOf block.now tables.now twin.old.list.alias twin.old.stem }
+    ensures { IsModuleOf block.now tables.now twin.new.list.alias twin.new.stem }
 {
     let Some(tuple) = arrived(block, tables, alias, row) else {
         return Ok(());
@@ -217,13 +225,14 @@ fn try_rows(
     alloc: Global,
     block: &Block,
     tables: &Tables,
-    twin: &Twin<'_>,
+    twin: &mut Twin<'_>,
     alias: u8,
     last: u64,
     draw: &mut Draw,
 ) -> Result<(), Fail>
     requires given { IsGiven tables.now block.now }
-    requires of { IsModuleOf block.now tables.now twin.now.list.alias twin.now.stem }
+    requires of { IsModuleOf block.now tables.now twin.old.list.alias twin.old.stem }
+    ensures { IsModuleOf block.now tables.now twin.new.list.alias twin.new.stem }
 {
     for row in 0..4 {
         try_row(alloc, block, tables, twin, alias, row, last, draw)?;
@@ -231,21 +240,22 @@ fn try_rows(
     Ok(())
 }
 
-// Enters rows in random order into both modules, and answers a stamp behind the last.
+// Enters rows in random order into both modules, from a stamp on, and answers a stamp behind the last.
 fn fill(
     block: &Block,
     tables: &Tables,
     alias: u8,
     stem: &mut Stem<'_, NoPredicates>,
     entries: &mut Vec<Entry>,
+    from: u64,
     draw: &mut Draw,
 ) -> Result<u64, Fail>
     requires given { IsGiven tables.now block.now }
     requires of { IsModuleOf block.now tables.now alias stem.old }
     ensures { IsModuleOf block.now tables.now alias stem.new }
 {
-    let mut stamp = u64::from(draw.below(3));
-    for _build in 0..8 {
+    let mut stamp = from.saturating_add(u64::from(draw.below(3)));
+    for _build in 0..4 {
         let row = u32::from(draw.below(4));
         let entry = Entry { row, stamp };
         if enter(block, tables, alias, stem, entry) {
@@ -254,6 +264,35 @@ fn fill(
         }
     }
     Ok(stamp.saturating_add(2))
+}
+
+// Enters more rows into an alias's modules, from a stamp on, and counts the probes of them. A stamp behind the last.
+fn try_more(
+    alloc: Global,
+    block: &Block,
+    tables: &Tables,
+    twin: &mut Twin<'_>,
+    from: u64,
+    draw: &mut Draw,
+) -> Result<u64, Fail>
+    requires given { IsGiven tables.now block.now }
+    requires of { IsModuleOf block.now tables.now twin.old.list.alias twin.old.stem }
+    ensures { IsModuleOf block.now tables.now twin.new.list.alias twin.new.stem }
+{
+    let alias = twin.list.alias;
+    let last = fill(
+        block,
+        tables,
+        alias,
+        &mut twin.stem,
+        &mut twin.list.entries,
+        from,
+        draw,
+    )?;
+    for other in 0..3 {
+        try_rows(alloc, block, tables, twin, other, last, draw)?;
+    }
+    Ok(last)
 }
 
 // Counts the probes of an alias's modules.
@@ -267,16 +306,14 @@ fn try_alias(
     requires given { IsGiven tables.now block.now }
     requires alias { alias < length block.now.aliases }
 {
-    let mut stem = Stem::new(alloc, block, tables, &NoPredicates, alias)?;
-    let mut entries = Vec::new(alloc);
-    let last = fill(block, tables, alias, &mut stem, &mut entries, draw)?;
-    let twin = Twin {
+    let stem = Stem::new(alloc, block, tables, &NoPredicates, alias)?;
+    let entries = Vec::new(alloc);
+    let mut twin = Twin {
         stem,
         list: ListModule { alias, entries },
     };
-    for other in 0..3 {
-        try_rows(alloc, block, tables, &twin, other, last, draw)?;
-    }
+    let some = try_more(alloc, block, tables, &mut twin, 0, draw)?;
+    try_more(alloc, block, tables, &mut twin, some, draw)?;
     Ok(())
 }
 
@@ -310,6 +347,7 @@ fn both_modules_answer_alike(rt: HostRuntime) -> Result<(), Fail> {
         blocks: 0,
         equal: 0,
         different: 0,
+        bands: 0,
     };
     for _ in 0..10_000 {
         if draw.blocks < BLOCKS {
@@ -319,5 +357,6 @@ fn both_modules_answer_alike(rt: HostRuntime) -> Result<(), Fail> {
     assert_eq!(rt; draw.blocks, BLOCKS);
     assert_eq!(rt; draw.different, 0);
     assert!(rt; draw.equal > 50_000);
+    assert!(rt; draw.bands > 1_000);
     Ok(())
 }

@@ -12,6 +12,7 @@ pub fn via_text(alloc: Global, via: Via) -> Result<String, Fail> {
         Via::Equal(conjunct) => Ok(format!(in alloc; "equal {conjunct}")?),
         Via::Literal(conjunct) => Ok(format!(in alloc; "literal {conjunct}")?),
         Via::Range(conjunct) => Ok(format!(in alloc; "range {conjunct}")?),
+        Via::Band(conjunct) => Ok(format!(in alloc; "band {conjunct}")?),
     }
 }
 

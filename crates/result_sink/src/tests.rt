@@ -11,7 +11,7 @@ use crate::writing::put_heading;
 use crate::{WriteFault, in_order, write_answer};
 use bag_meaning::Combo;
 use outside::{MemorySink, Sink, SureSink};
-use sq_expr::{Access, AliasUse, Block, OrderKey, OutCol};
+use sq_expr::{Access, AliasUse, Block, Conjuncts, OrderKey, OutCol};
 use sq_value::{ColType, Column, Dec, Memory, SortWay, SqText, Table, Tables, Value};
 use sqlite_items::Items;
 use std::alloc::Global;
@@ -133,7 +133,7 @@ fn sample_block(alloc: Global, shown: &[(u8, u32)], keys: &[OrderKey]) -> Result
 {
     Ok(Block {
         aliases: Items::from_vec(vec![in alloc; scanned(), scanned()]?),
-        conjuncts: Items::new(alloc),
+        conjuncts: Conjuncts::new(alloc, Items::new(alloc))?,
         output: output(alloc, shown)?,
         order: order(alloc, keys)?,
     })

@@ -12,7 +12,7 @@ pub record Counting (P : Type 0) : Type 0 where
 
 -- a count of 0 for each lane and part
 abbrev pub no_counts : List ℕ
-no_counts = replicate 18000 0
+no_counts = replicate 23760 0
 
 -- the place of a lane's count in a part
 abbrev pub count_place : ℕ → ℕ → ℕ

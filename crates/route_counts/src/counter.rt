@@ -29,7 +29,7 @@ impl<P: Policy> Model for Counter<P> {
 
     ghost view = { λ r. record { inner = r.inner; width = r.width; given = r.given.items; came = r.came.items } };
 
-    ghost invariant = { λ r. (1 ≤ r.width) × (length r.given.items ≡ 18000) × (length r.came.items ≡ 18000) };
+    ghost invariant = { λ r. (1 ≤ r.width) × (length r.given.items ≡ 23760) × (length r.came.items ≡ 23760) };
 }
 
 // The part of a run that the last of so many choices belongs to.
@@ -79,7 +79,7 @@ impl<P: Policy> Counter<P> {
 
     /// How many tuples a lane was given in a part of the run.
     pub fn given(&self, lane: usize, part: usize) -> u64
-        requires { (lane < 1800) × (part < 10) }
+        requires { (lane < 2376) × (part < 10) }
         ensures { result ≡ slice_index self.now.given (spec.count_place lane part) }
     {
         self.given[lane * PARTS + part]
@@ -87,7 +87,7 @@ impl<P: Policy> Counter<P> {
 
     /// How many tuples came of them.
     pub fn came(&self, lane: usize, part: usize) -> u64
-        requires { (lane < 1800) × (part < 10) }
+        requires { (lane < 2376) × (part < 10) }
         ensures { result ≡ slice_index self.now.came (spec.count_place lane part) }
     {
         self.came[lane * PARTS + part]

@@ -6,8 +6,8 @@ ghost use Rattle.route_counts.specs.Lanes as spec;
 
 use tuple_span::{Route, Via};
 
-/// How many lanes there are: 48 selections, 12 builds, and of each of 12 aliases 145 probes.
-pub const LANES: usize = 1800;
+/// How many lanes there are: 48 selections, 12 builds, and of each of 12 aliases 193 probes.
+pub const LANES: usize = 2376;
 
 /// In how many parts a run is counted.
 pub const PARTS: usize = 10;
@@ -27,19 +27,22 @@ pub enum Lane {
     Literal(usize, usize),
     /// The probe of an alias by a conjunct of another comparison.
     Range(usize, usize),
+    /// The probe of an alias by a band, a conjunct and the one after it.
+    Band(usize, usize),
 }
 
 // The number of a way to probe, among those of its alias.
 fn via_number(via: Via) -> usize
     requires { spec.IsVia via }
     ensures value { result ≡ spec.via_number via }
-    ensures below { result < 145 }
+    ensures below { result < 193 }
 {
     match via {
         Via::All => 0,
         Via::Equal(conjunct) => 1 + usize::from(conjunct),
         Via::Literal(conjunct) => 49 + usize::from(conjunct),
         Via::Range(conjunct) => 97 + usize::from(conjunct),
+        Via::Band(conjunct) => 145 + usize::from(conjunct),
     }
 }
 
@@ -47,19 +50,19 @@ fn via_number(via: Via) -> usize
 pub fn lane_of(route: Route) -> usize
     requires { IsRoute route }
     ensures value { result ≡ spec.lane_of route }
-    ensures below { result < 1800 }
+    ensures below { result < 2376 }
 {
     match route {
         Route::Select(conjunct) => usize::from(conjunct),
         Route::Build { alias } => 48 + usize::from(alias),
-        Route::Probe { alias, via } => 60 + 145 * usize::from(alias) + via_number(via),
+        Route::Probe { alias, via } => 60 + 193 * usize::from(alias) + via_number(via),
     }
 }
 
 // The probe with a number among those of its alias.
 fn probe_of(alias: usize, number: usize) -> Lane
     requires { alias < 2 ^ 32 }
-    ensures { spec.lane_number result ≡ 60 + 145 * alias + number }
+    ensures { spec.lane_number result ≡ 60 + 193 * alias + number }
 {
     if number == 0 {
         Lane::All(alias)
@@ -67,14 +70,16 @@ fn probe_of(alias: usize, number: usize) -> Lane
         Lane::Equal(alias, number - 1)
     } else if number < 97 {
         Lane::Literal(alias, number - 49)
-    } else {
+    } else if number < 145 {
         Lane::Range(alias, number - 97)
+    } else {
+        Lane::Band(alias, number - 145)
     }
 }
 
 /// What the lane with a number is.
 pub fn meaning_of(lane: usize) -> Lane
-    requires { lane < 1800 }
+    requires { lane < 2376 }
     ensures { spec.lane_number result ≡ lane }
 {
     if lane < 48 {
@@ -82,6 +87,6 @@ pub fn meaning_of(lane: usize) -> Lane
     } else if lane < 60 {
         Lane::Build(lane - 48)
     } else {
-        probe_of((lane - 60) / 145, (lane - 60) % 145)
+        probe_of((lane - 60) / 193, (lane - 60) % 193)
     }
 }

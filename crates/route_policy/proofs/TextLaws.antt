@@ -44,6 +44,7 @@ word_text-lacks word.Build = (refl, tt)
 word_text-lacks (word.Select n) = (refl, numeral-lacks n)
 word_text-lacks (word.All n) = (refl, numeral-lacks n)
 word_text-lacks (word.By n) = (refl, numeral-lacks n)
+word_text-lacks (word.Band n) = (refl, numeral-lacks n)
 
 -- the pieces of some words' text are the texts of the words
 pub pieces_of-texts : (w : RouteWord) (words : List RouteWord) → pieces_of (script_text (w ∷ words)) ≡ map word_text (w ∷ words)
@@ -62,6 +63,7 @@ word_text-some word.Build rest none = cc none
 word_text-some (word.Select n) rest none = cc none
 word_text-some (word.All n) rest none = cc none
 word_text-some (word.By n) rest none = cc none
+word_text-some (word.Band n) rest none = cc none
 
 pub script_text-some : (w : RouteWord) (words : List RouteWord) → script_text (w ∷ words) ≡ [] → ⊥
 script_text-some w [] none = word_text-some w [] (append-nil (word_text w) ∙ none)

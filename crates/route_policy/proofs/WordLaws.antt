@@ -108,14 +108,23 @@ spelled_by letter c number limit n w made spells is_c is_w text known =
 pub lettered-Some : (letter : ℕ) (number : List ℕ) (w : RouteWord) → lettered letter number ≡ Some w → IsSpelled (letter ∷ number) w
 lettered-Some letter number w h = by_s (cases_Bool (letter == 115))
   where
-    by_v : (letter == 115) ≡ false → (letter == 97) ≡ false → IsSpelled (letter ∷ number) w
-    by_v not_s not_a =
-        let rest : (if letter == 118 then option_map word.By (digits_number 48 number) else None) ≡ Some w =
-        sym (cond-false (letter == 115) _ _ not_s ∙ cond-false (letter == 97) _ _ not_a) ∙ h in
-        let parts = some_under (letter == 118) (option_map word.By (digits_number 48 number)) w rest in
-        let made = option_map-Some word.By (digits_number 48 number) w parts.1 in
+    by_w : (letter == 115) ≡ false → (letter == 97) ≡ false → (letter == 118) ≡ false → IsSpelled (letter ∷ number) w
+    by_w not_s not_a not_v =
+        let rest : (if letter == 119 then option_map word.Band (digits_number 48 number) else None) ≡ Some w =
+        sym (cond-false (letter == 115) _ _ not_s ∙ cond-false (letter == 97) _ _ not_a ∙ cond-false (letter == 118) _ _ not_v) ∙ h in
+        let parts = some_under (letter == 119) (option_map word.Band (digits_number 48 number)) w rest in
+        let made = option_map-Some word.Band (digits_number 48 number) w parts.1 in
         let spells = digits_number-Some 48 number made.0 made.1 in
-        spelled_by letter 118 number 48 made.0 w (word.By made.0) spells (eqb-true letter 118 parts.0) made.2 refl spells.below
+        spelled_by letter 119 number 48 made.0 w (word.Band made.0) spells (eqb-true letter 119 parts.0) made.2 refl spells.below
+
+    by_v : (letter == 115) ≡ false → (letter == 97) ≡ false → ((letter == 118) ≡ true) ⊎ ((letter == 118) ≡ false) → IsSpelled (letter ∷ number) w
+    by_v not_s not_a (inl is) =
+        let made =
+        option_map-Some word.By (digits_number 48 number) w
+        (sym (cond-false (letter == 115) _ _ not_s ∙ cond-false (letter == 97) _ _ not_a ∙ cond-true (letter == 118) _ _ is) ∙ h) in
+        let spells = digits_number-Some 48 number made.0 made.1 in
+        spelled_by letter 118 number 48 made.0 w (word.By made.0) spells (eqb-true letter 118 is) made.2 refl spells.below
+    by_v not_s not_a (inr isnt) = by_w not_s not_a isnt
 
     by_a : (letter == 115) ≡ false → ((letter == 97) ≡ true) ⊎ ((letter == 97) ≡ false) → IsSpelled (letter ∷ number) w
     by_a not_s (inl is) =
@@ -124,7 +133,7 @@ lettered-Some letter number w h = by_s (cases_Bool (letter == 115))
         (sym (cond-false (letter == 115) _ _ not_s ∙ cond-true (letter == 97) _ _ is) ∙ h) in
         let spells = digits_number-Some 12 number made.0 made.1 in
         spelled_by letter 97 number 12 made.0 w (word.All made.0) spells (eqb-true letter 97 is) made.2 refl spells.below
-    by_a not_s (inr isnt) = by_v not_s isnt
+    by_a not_s (inr isnt) = by_v not_s isnt (cases_Bool (letter == 118))
 
     by_s : ((letter == 115) ≡ true) ⊎ ((letter == 115) ≡ false) → IsSpelled (letter ∷ number) w
     by_s (inl is) =
@@ -159,3 +168,4 @@ read_word-text (word.Select n) known =
     read_word-lettered 115 n ∙ ap (option_map word.Select) (digits_number-numeral 48 n known (lit≤ tt))
 read_word-text (word.All n) known = read_word-lettered 97 n ∙ ap (option_map word.All) (digits_number-numeral 12 n known (lit≤ tt))
 read_word-text (word.By n) known = read_word-lettered 118 n ∙ ap (option_map word.By) (digits_number-numeral 48 n known (lit≤ tt))
+read_word-text (word.Band n) known = read_word-lettered 119 n ∙ ap (option_map word.Band) (digits_number-numeral 48 n known (lit≤ tt))

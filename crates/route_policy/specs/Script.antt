@@ -20,18 +20,28 @@ pub record ScriptState : Type 0 where
 abbrev pub fresh_script : List RouteWord → ScriptState
 fresh_script words = record { words = words; asked = 0 }
 
--- whether a probe goes by this conjunct
+-- whether a probe goes by this conjunct alone
 abbrev pub goes_by : ℕ → Via → Bool
 goes_by conjunct (via.Equal p) = conjunct == p
 goes_by conjunct (via.Literal p) = conjunct == p
 goes_by conjunct (via.Range p) = conjunct == p
+goes_by conjunct (via.Band p) = false
 goes_by conjunct via.All = false
+
+-- whether a probe goes by a band that begins with this conjunct
+abbrev pub goes_by_band : ℕ → Via → Bool
+goes_by_band conjunct (via.Equal p) = false
+goes_by_band conjunct (via.Literal p) = false
+goes_by_band conjunct (via.Range p) = false
+goes_by_band conjunct (via.Band p) = conjunct == p
+goes_by_band conjunct via.All = false
 
 -- whether a probe goes by no conjunct
 abbrev pub goes_by_none : Via → Bool
 goes_by_none (via.Equal p) = false
 goes_by_none (via.Literal p) = false
 goes_by_none (via.Range p) = false
+goes_by_none (via.Band p) = false
 goes_by_none via.All = true
 
 -- whether a route builds
@@ -52,11 +62,17 @@ is_probe_of_all alias (route.Select p) = false
 is_probe_of_all alias (route.Build other) = false
 is_probe_of_all alias (route.Probe other by) = (alias == other) && goes_by_none by
 
--- whether a route is a probe by this conjunct
+-- whether a route is a probe by this conjunct alone
 abbrev pub is_probe_by : ℕ → Route → Bool
 is_probe_by conjunct (route.Select p) = false
 is_probe_by conjunct (route.Build alias) = false
 is_probe_by conjunct (route.Probe alias by) = goes_by conjunct by
+
+-- whether a route is a probe by a band that begins with this conjunct
+abbrev pub is_probe_by_band : ℕ → Route → Bool
+is_probe_by_band conjunct (route.Select p) = false
+is_probe_by_band conjunct (route.Build alias) = false
+is_probe_by_band conjunct (route.Probe alias by) = goes_by_band conjunct by
 
 -- whether a word matches a route
 abbrev pub is_wanted : RouteWord → Route → Bool
@@ -64,6 +80,7 @@ is_wanted word.Build = is_build
 is_wanted (word.Select conjunct) = is_selection conjunct
 is_wanted (word.All alias) = is_probe_of_all alias
 is_wanted (word.By conjunct) = is_probe_by conjunct
+is_wanted (word.Band conjunct) = is_probe_by_band conjunct
 
 -- the place of the first route that the first word with a match matches, or of the first candidate where no word
 -- matches
@@ -84,17 +101,19 @@ IsWord word.Build = Unit {0}
 IsWord (word.Select conjunct) = conjunct < 48
 IsWord (word.All alias) = alias < 12
 IsWord (word.By conjunct) = conjunct < 48
+IsWord (word.Band conjunct) = conjunct < 48
 
 -- a number below 100 in decimal digits, without a leading zero
 abbrev pub numeral : ℕ → List ℕ
 numeral n = if nat_lt n 10 then (48 + n) ∷ [] else (48 + n / 10) ∷ (48 + n % 10) ∷ []
 
--- the text of a word: `b`, or `s`, `a` or `v` and a number
+-- the text of a word: `b`, or `s`, `a`, `v` or `w` and a number
 abbrev pub word_text : RouteWord → List ℕ
 word_text word.Build = 98 ∷ []
 word_text (word.Select conjunct) = 115 ∷ numeral conjunct
 word_text (word.All alias) = 97 ∷ numeral alias
 word_text (word.By conjunct) = 118 ∷ numeral conjunct
+word_text (word.Band conjunct) = 119 ∷ numeral conjunct
 
 -- the text of a script
 abbrev pub script_text : List RouteWord → List ℕ

@@ -29,6 +29,7 @@ lettered letter number =
     if letter == 115 then option_map word.Select (digits_number 48 number)
     else if letter == 97 then option_map word.All (digits_number 12 number)
     else if letter == 118 then option_map word.By (digits_number 48 number)
+    else if letter == 119 then option_map word.Band (digits_number 48 number)
     else None
 
 -- the word that these bytes are

@@ -8,7 +8,7 @@ use tuple_span::{Route, Via};
 /// How many modules there are: 48 selections and 12 state modules.
 pub(crate) const MODULES: usize = 60;
 
-/// The class of a route: 1 where at most what meets a condition comes, 4 where all comes.
+/// The class of a route: 1 where at most what meets a condition comes, 5 where all comes.
 pub(crate) fn route_class(route: &Route) -> u8
     ensures { result ≡ route_class route.now }
 {
@@ -25,8 +25,9 @@ fn class_of_probe(via: &Via) -> u8
     match via {
         Via::Equal(_) => 1,
         Via::Literal(_) => 2,
-        Via::Range(_) => 3,
-        Via::All => 4,
+        Via::Band(_) => 3,
+        Via::Range(_) => 4,
+        Via::All => 5,
     }
 }
 

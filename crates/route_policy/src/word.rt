@@ -1,7 +1,7 @@
 //! The words of a route script.
 
 ghost use Rattle.std.specs.Prelude.{◌≡◌, ◌+◌, ◌*◌, ◌<◌, ◌≤◌, length, IfSome};
-ghost use Rattle.route_policy.specs.Script.{is_wanted, goes_by};
+ghost use Rattle.route_policy.specs.Script.{is_wanted, goes_by, goes_by_band};
 ghost use Rattle.route_policy.specs.ScriptReading.{digits_number, lettered, read_word};
 
 use tuple_span::{Route, Via};
@@ -15,8 +15,10 @@ pub enum RouteWord {
     Select(u8),
     /// The probe of all entries of an alias.
     All(u8),
-    /// A probe by a conjunct.
+    /// A probe by a conjunct alone.
     By(u8),
+    /// A probe by a band that begins with a conjunct.
+    Band(u8),
 }
 
 impl Default for RouteWord {
@@ -41,18 +43,29 @@ impl RouteWord {
                 },
             ) => alias == other,
             (RouteWord::By(conjunct), Route::Probe { via, .. }) => goes_by(*conjunct, via),
+            (RouteWord::Band(conjunct), Route::Probe { via, .. }) => goes_by_band(*conjunct, via),
             _ => false,
         }
     }
 }
 
-/// Whether a probe goes by this conjunct.
+/// Whether a probe goes by this conjunct alone.
 fn goes_by(conjunct: u8, via: &Via) -> bool
     ensures { result ≡ goes_by conjunct via.now }
 {
     match via {
         Via::Equal(other) | Via::Literal(other) | Via::Range(other) => conjunct == *other,
-        Via::All => false,
+        Via::All | Via::Band(_) => false,
+    }
+}
+
+/// Whether a probe goes by a band that begins with this conjunct.
+fn goes_by_band(conjunct: u8, via: &Via) -> bool
+    ensures { result ≡ goes_by_band conjunct via.now }
+{
+    match via {
+        Via::Band(other) => conjunct == *other,
+        Via::All | Via::Equal(_) | Via::Literal(_) | Via::Range(_) => false,
     }
 }
 
@@ -79,6 +92,7 @@ pub(crate) fn read_word(bytes: &[u8]) -> Option<RouteWord>
         [b's', digits @ ..] => Some(RouteWord::Select(digits_number(48, digits)?)),
         [b'a', digits @ ..] => Some(RouteWord::All(digits_number(12, digits)?)),
         [b'v', digits @ ..] => Some(RouteWord::By(digits_number(48, digits)?)),
+        [b'w', digits @ ..] => Some(RouteWord::Band(digits_number(48, digits)?)),
         _ => None,
     }
 }

@@ -72,7 +72,9 @@ pub fn load<F: Folder>(
     }
 }
 
-// The table of a file's bytes.
+// The table of a file's bytes. A reader of records takes 67 kB of the stack. They aren't its caller's, below whom a
+// script is parsed.
+#[inline(never)]
 fn table_of(alloc: Global, bytes: &[u8], number: u32) -> Result<Table, Status>
     ensures ok { IfOk result (λ table. table_of_bytes bytes.now ≡ Ok table) }
     ensures refused { IfErr result (λ s.

@@ -28,6 +28,16 @@ SELECT o.oid FROM ord o, ord p WHERE o.cid = p.cid AND o.oid <= p.oid";
 
 const OF_ORDERS: &str = " 0,0 0,1 0,2 1,0 1,1 1,2 1,3| 0,0 0,1 1,2| 0,0 0,1 1,1 2,2";
 
+// Two bands, each of a table that both statements read.
+const RANGES: &str = "ord oid:int,cid:int,amt:int/10,1,5/11,1,7/12,2,5/13,,9
+n x:int/1/2/3";
+
+const OVER_RANGES: &str = "SELECT p.x FROM ord o, n p WHERE p.x BETWEEN o.cid AND o.amt
+SELECT a.x FROM n a, n b WHERE b.x BETWEEN a.x AND a.x";
+
+const OF_RANGES: &str =
+    " 0,0 0,1 0,2 0,3 1,0 1,1 1,2| 0,0 0,1 0,2 1,0 1,1 1,2 2,1 2,2| 0,0 1,1 2,2";
+
 // What so many workers answer for statements over tables, the most hops, and how many turns of modules they take. By
 // the script `v0`, or each by a policy of its own.
 fn told_by<R: Threads + Wait + Sync>(
@@ -70,6 +80,7 @@ fn statements_share_the_rows_of_their_tables(rt: HostRuntime) -> Result<(), Fail
         for (lines, ways, statements, wanted) in [
             (ONE_TABLE, "s", OVER_ONE, OF_ONE),
             (ORDERS, "s s", OVER_ORDERS, OF_ORDERS),
+            (RANGES, "s s", OVER_RANGES, OF_RANGES),
         ] {
             let (told, _, _) = told_by(&rt, alloc, lines, ways, statements, workers, false)?;
             assert_eq!(rt; told.as_str(), wanted, "by {workers}");

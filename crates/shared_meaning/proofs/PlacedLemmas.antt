@@ -1,5 +1,5 @@
 -- Reading stamps as places changes nothing of a routing: what is legal, what comes of it, and what is finished.
-use Rattle.std.proofs.Common.{◌≡◌, ℕ, ◌<◌, Bool, true, false, cond, List, [], ◌∷◌, ◌++◌, take, drop, suc, Option, Some, None, refl, ap, sym, ◌∙◌}
+use Rattle.std.proofs.Common.{◌≡◌, ℕ, ◌+◌, Bool, true, false, cond, List, [], ◌∷◌, ◌++◌, take, drop, suc, Option, Some, None, refl, ap, sym, ◌∙◌}
 use Rattle.std.specs.Prelude.{◌&&◌, not, map, filter, is_some, All, slice_get, slice_set}
 use Rattle.std.specs.List.{list_all, range_with_len, remove}
 use Rattle.std.specs.Option.{option_map, unwrap_or}
@@ -9,19 +9,19 @@ use Rattle.sq_value.specs.Relation.{Relation}
 use Rattle.sq_value.specs.declared.value.Value.{Value}
 use Rattle.sq_value.specs.declared.value.Truth.{Truth}
 use Rattle.sq_value.specs.declared.value.Cmp.{Cmp}
+use Rattle.sq_expr.specs.declared.cond.ColumnOf.{ColumnOf}
 use Rattle.sq_expr.specs.declared.cond.Side.{Side}
 use Rattle.sq_expr.specs.declared.block.AliasUse.{AliasUse}
 use Rattle.sq_expr.specs.declared.block.Block.{Block}
 use Rattle.bag_meaning.specs.declared.combo.Built.{Built}
 use Rattle.bag_meaning.specs.declared.combo.Combo.{Combo}
-use Rattle.bag_meaning.proofs.ListLemmas.{map-map}
 use Rattle.tuple_span.specs.Parts.{part_of, is_done}
 use Rattle.tuple_span.specs.declared.route.Via.{Via}
 use Rattle.tuple_span.specs.declared.route.Via.TheVariants as via
 use Rattle.eddy_meaning.specs.Tuple.{Tuple}
 use Rattle.eddy_meaning.specs.Act.{unfinished, found_of, pending_after}
 use Rattle.eddy_meaning.specs.Faithful.{is_finished, found}
-use Rattle.eddy_meaning.specs.Route.{IsLegalSelect, IsLegalBy, IsLegalVia, IsEqual, IsLiteral, IsRange, came_of_select, probed, hopped, mark_done, mark_via, joined, holds_at}
+use Rattle.eddy_meaning.specs.Route.{IsLegalSelect, IsLegalBy, IsLegalVia, IsBandEnd, IsEqual, IsLiteral, IsRange, came_of_select, probed, hopped, mark_done, mark_all, joined, holds_at, hold_all}
 use Rattle.shared_meaning.specs.Places.{place_at, placed_tuple, placed_combo}
 use Rattle.shared_meaning.specs.Settled.{HasPair}
 
@@ -89,7 +89,7 @@ module _ (uses : List ℕ) (log : List Built) where
 
   pub select_placed : (gives : ℕ → Value → Value → Truth) (block : Block) (tables : List Relation) (t : Tuple) (p : ℕ)
       → came_of_select gives block tables (placed_tuple uses log t) p ≡ map (placed_tuple uses log) (came_of_select gives block tables t p)
-  select_placed gives block tables t p = by (holds_at gives block tables t.parts (Some p))
+  select_placed gives block tables t p = by (holds_at gives block tables t.parts p)
     where
       by : (b : Bool) → cond b (hopped (mark_done p (placed_tuple uses log t)) ∷ []) [] ≡ map (placed_tuple uses log) (cond b (hopped (mark_done p t) ∷ []) [])
       by true = refl
@@ -112,15 +112,44 @@ module _ (uses : List ℕ) (log : List Built) where
     look_up = l.look_up;
   }
 
+  end_placed : (block : Block) (t : Tuple) (own : ColumnOf) (p : ℕ) → IsBandEnd block t own p → IsBandEnd block (placed_tuple uses log t) own p
+  end_placed block t own p e = record {
+    conjunct = e.conjunct;
+    at = e.at;
+    undone = e.undone;
+    cmp = e.cmp;
+    other = e.other;
+    compares = e.compares;
+    covered = e.covered;
+    range = e.range;
+  }
+
   pub via_legal : (block : Block) (t : Tuple) (alias : ℕ) (u : AliasUse) (v : Via) → IsLegalVia block t alias u v → IsLegalVia block (placed_tuple uses log t) alias u v
+  unfolding end_placed
   via_legal block t alias u via.All l = l
   via_legal block t alias u (via.Equal p) l = by_legal IsEqual block t alias u p l
   via_legal block t alias u (via.Literal p) l = by_legal IsLiteral block t alias u p l
   via_legal block t alias u (via.Range p) l = by_legal IsRange block t alias u p l
+  via_legal block t alias u (via.Band p) l = record {
+    scanned = l.scanned;
+    own = l.own;
+    of = l.of;
+    first = end_placed block t l.own p l.first;
+    second = end_placed block t l.own (p + 1) l.second;
+    apart = l.apart;
+  }
 
-  pub probe_placed : (gives : ℕ → Value → Value → Truth) (block : Block) (tables : List Relation) (rows : List ℕ) (t : Tuple) (alias : ℕ) (o : Option ℕ)
-      → probed gives block tables rows (placed_tuple uses log t) alias o ≡ map (placed_tuple uses log) (probed gives block tables rows t alias o)
-  probe_placed gives block tables rows t alias None =
-      sym (map-map (placed_tuple uses log) (λ (row : ℕ). hopped (mark_via None (joined alias row t))) (filter (λ row. holds_at gives block tables (slice_set t.parts alias (Some row)) None) rows))
-  probe_placed gives block tables rows t alias (Some p) =
-      sym (map-map (placed_tuple uses log) (λ (row : ℕ). hopped (mark_via (Some p) (joined alias row t))) (filter (λ row. holds_at gives block tables (slice_set t.parts alias (Some row)) (Some p)) rows))
+  placed_mark : (ps : List ℕ) (t : Tuple) → mark_all ps (placed_tuple uses log t) ≡ placed_tuple uses log (mark_all ps t)
+  placed_mark [] t = refl
+  placed_mark (p ∷ ps) t = placed_mark ps (mark_done p t)
+
+  pub probe_placed : (gives : ℕ → Value → Value → Truth) (block : Block) (tables : List Relation) (rows : List ℕ) (t : Tuple) (alias : ℕ) (ps : List ℕ)
+      → probed gives block tables rows (placed_tuple uses log t) alias ps ≡ map (placed_tuple uses log) (probed gives block tables rows t alias ps)
+  probe_placed gives block tables rows t alias ps = each (filter (λ row. hold_all gives block tables (slice_set t.parts alias (Some row)) ps) rows)
+    where
+      each : (met : List ℕ) → map (λ row. hopped (mark_all ps (joined alias row (placed_tuple uses log t)))) met
+          ≡ map (placed_tuple uses log) (map (λ row. hopped (mark_all ps (joined alias row t))) met)
+      each [] = refl
+      each (row ∷ met) =
+          ap (λ (u : Tuple). hopped u ∷ map (λ r. hopped (mark_all ps (joined alias r (placed_tuple uses log t)))) met) (placed_mark ps (joined alias row t))
+          ∙ ap (λ (us : List Tuple). placed_tuple uses log (hopped (mark_all ps (joined alias row t))) ∷ us) (each met)

@@ -13,7 +13,7 @@ ghost use Rattle.bag_meaning.specs.declared.combo.Combo.{Combo};
 ghost use Rattle.tuple_span.specs.declared.route.Via.{Via};
 ghost use Rattle.eddy_meaning.specs.Act.{found_of, unfinished, pending_after};
 ghost use Rattle.eddy_meaning.specs.Entries.{entries_of, rows_before};
-ghost use Rattle.eddy_meaning.specs.Route.{IsLegalSelect, IsLegalProbe, came_of_select, probed, conjunct_of};
+ghost use Rattle.eddy_meaning.specs.Route.{IsLegalSelect, IsLegalProbe, came_of_select, probed, conjuncts_of};
 ghost use Rattle.eddy_meaning.specs.Tuple.{Tuple};
 ghost use Rattle.eddy_meaning.specs.Shared.{block_log};
 ghost use Rattle.eddy_workers.specs.View.{View, Extends, IsLonger};
@@ -75,10 +75,10 @@ pub fn act_laws()
         → IsSettledFor gives block tables sizes uses new
         (results ++ found_of block (probed gives block tables
         (rows_before legal.stamp (map (stamped_entry alias) (new.seen (slice_index uses alias)))) t alias
-        (conjunct_of v)))
+        (conjuncts_of v)))
         (pending_after block pending place (probed gives block tables
         (rows_before legal.stamp (map (stamped_entry alias) (new.seen (slice_index uses alias)))) t alias
-        (conjunct_of v))) }
+        (conjuncts_of v))) }
     ensures built { (gives : ℕ → Value → Value → Truth) (kinds : ℕ → Option Kinds) (block : Block)
         → (tables : List Relation) → IsFit kinds tables block → (sizes uses : List ℕ) → IsUsing block tables sizes uses
         → (old new : View) (results : List Combo) (pending : List Tuple) (table row p : ℕ)

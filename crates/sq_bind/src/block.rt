@@ -18,7 +18,7 @@ use crate::part::{extra_fault, parts_fault};
 use crate::select::{selected_fault, spelled};
 use crate::span::conjuncts_of;
 use crate::visible::SeenAlias;
-use sq_expr::{Access, Block, Cell, ColumnOf, OutCol, Shape};
+use sq_expr::{Access, Block, Cell, ColumnOf, Conjuncts, OutCol, Shape};
 use sq_parse::{Statement, is_grouped};
 use sq_value::{Memory, Predicates, SqText};
 use sqlite_items::Items;
@@ -86,7 +86,7 @@ pub fn matches_of(
     ensures { IfOk result (λ block.
         block ≡ matches_with accesses.now found.now (map seen aliases.now) placed.items) }
 {
-    let conjuncts = conjuncts_of(alloc, placed)?;
+    let conjuncts = Conjuncts::new(alloc, conjuncts_of(alloc, placed)?)?;
     let mut output = Items::new(alloc);
     output.push(first_output(alloc, aliases)?)?;
     let aliases = uses_of(alloc, accesses, found)?;

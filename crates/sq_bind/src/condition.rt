@@ -226,7 +226,7 @@ pub fn tree_fault<F: Predicates>(
             subject,
             low,
             high,
-        } => between_fault(aliases, *at, subject, low, high),
+        } => between_fault(aliases, *at, subject, low, high.get()),
         Tree::Within {
             at,
             negated: _,

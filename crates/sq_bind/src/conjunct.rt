@@ -177,7 +177,7 @@ pub fn push_conjuncts<F: Predicates>(
             low,
             high,
         } => {
-            let between = (*at, *negated, subject, low, high);
+            let between = (*at, *negated, subject, low, high.get());
             push_between(alloc, functions, aliases, tree, between, placed)
         }
         Tree::All(parts) => push_parts(alloc, functions, aliases, parts.as_slice(), placed),

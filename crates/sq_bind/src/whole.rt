@@ -299,7 +299,7 @@ pub fn whole_of<F: Predicates>(
             subject,
             low,
             high,
-        } => between_whole(alloc, aliases, *negated, subject, low, high),
+        } => between_whole(alloc, aliases, *negated, subject, low, high.get()),
         Tree::Within {
             at: _,
             negated,

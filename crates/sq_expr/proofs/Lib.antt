@@ -6,4 +6,7 @@ pub mod WeakerLemmas
 pub mod ReadyLemmas
 pub mod OccurLemmas
 pub mod ColumnLemmas
+pub mod MembershipLemmas
+pub mod IntegerTestLemmas
+pub mod PreparedLemmas
 pub mod WorkedFits

@@ -15,6 +15,11 @@ pub within_abs : (z : ℤ) (m : ℕ) → unsigned_abs z ≤ m → (neg_ℤ (pos 
 within_abs (pos n) m h = (omega (arith, ints), omega (arith, ints))
 within_abs (negsuc n) m h = (omega (arith, ints), omega (arith, ints))
 
+-- a number of this absolute value fits into 128 bits
+pub number_fits : (z : ℤ) → unsigned_abs z ≤ 2 ^ 63 * 1000000 → FitsSigned w128 z
+number_fits (pos n) h = omega (arith, ints)
+number_fits (negsuc n) h = omega (arith, ints)
+
 -- a factor of 31 bits times a number of millionths
 pub product_within : (factor n : ℤ) → unsigned_abs factor ≤ 2147483647 → unsigned_abs n ≤ 2 ^ 63 * 1000000
     → (neg_ℤ (pos (2 ^ 114)) ≤ℤ (factor *ℤ n)) × ((factor *ℤ n) ≤ℤ pos (2 ^ 114))

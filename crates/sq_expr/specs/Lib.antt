@@ -2,5 +2,8 @@ pub mod Meaning
 pub mod Fits
 pub mod Plain
 pub mod Reading
+pub mod Membership
+pub mod IntegerTest
+pub mod Prepared
 pub mod Reach
 pub mod Shapes

@@ -1,5 +1,6 @@
 //! Bound queries.
 use crate::cond::Cond;
+use crate::conjuncts::Conjuncts;
 use sq_value::{SortWay, SqText};
 use sqlite_items::Items;
 
@@ -45,7 +46,7 @@ pub struct OrderKey {
 #[derive(Debug, Drop)]
 pub struct Block {
     pub aliases: Items<AliasUse>,
-    pub conjuncts: Items<Conjunct>,
+    pub conjuncts: Conjuncts,
     pub output: Items<OutCol>,
     pub order: Items<OrderKey>,
 }

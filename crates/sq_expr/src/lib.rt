@@ -6,12 +6,17 @@
 
 mod block;
 mod cond;
+mod conjuncts;
 mod evaluation;
+mod integer_test;
+mod membership;
 mod operand;
+mod prepared;
 mod shape;
 mod sum;
 
 pub use block::{Access, AliasUse, Block, Conjunct, OrderKey, OutCol};
 pub use cond::{Arg, Chosen, ColumnOf, Cond, Side, Term};
+pub use conjuncts::Conjuncts;
 pub use operand::argument;
 pub use shape::{AggKind, Cell, Shape, ShapeOrder, SortOn};

@@ -13,7 +13,7 @@ use crate::stop::Stop;
 use crate::tree::{Operand, Tree};
 use sq_token::{Mark, is_comparison, is_name, same};
 use sq_value::Cmp;
-use sqlite_items::Items as List;
+use sqlite_items::{Boxed, Items as List};
 use std::alloc::Global;
 
 // Operands with commas between.
@@ -123,6 +123,7 @@ fn between(
     let low = operand(alloc, tokens)?;
     tokens.expect(Mark::And)?;
     let high = operand(alloc, tokens)?;
+    let high = Boxed::new(alloc, high)?;
     Ok(Tree::Between {
         at: begin_of(&subject),
         negated,

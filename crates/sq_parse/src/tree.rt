@@ -90,7 +90,8 @@ pub enum Operand {
     Sum { at: u32, terms: List<RawTerm> },
 }
 
-/// A condition. `at` is the place of a predicate's first byte.
+/// A condition. `at` is the place of a predicate's first byte. The upper bound of BETWEEN lies apart, so that a
+/// condition has room for two operands: the parser holds one on its stack for each that is open.
 #[derive(Debug, Drop)]
 pub enum Tree {
     Compare {
@@ -104,7 +105,7 @@ pub enum Tree {
         negated: bool,
         subject: Operand,
         low: Operand,
-        high: Operand,
+        high: Boxed<Operand>,
     },
     Within {
         at: u32,

@@ -5,7 +5,7 @@ ghost use Rattle.sq_value.specs.declared.value.ColType.TheVariants as kind;
 ghost use Rattle.worked_cases.specs.SampleBlocks as sample;
 
 use bag_meaning::{Combo, plain};
-use sq_expr::{Access, AliasUse, Block, ColumnOf, Cond, Conjunct, OutCol, Side};
+use sq_expr::{Access, AliasUse, Block, ColumnOf, Cond, Conjunct, Conjuncts, OutCol, Side};
 use sq_value::{Cmp, ColType, Column, Memory, NoPredicates, SqText, Table, Tables, Value};
 use sqlite_items::Items;
 use std::alloc::Global;
@@ -77,7 +77,7 @@ fn sample_block(alloc: Global, uses: &[u32], conjuncts: Items<Conjunct>) -> Resu
 {
     Ok(Block {
         aliases: aliases(alloc, uses)?,
-        conjuncts,
+        conjuncts: Conjuncts::new(alloc, conjuncts)?,
         output: output(alloc)?,
         order: Items::new(alloc),
     })

@@ -232,6 +232,48 @@ fn scripts_choose_as_worked_out(rt: HostRuntime) -> Result<(), Fail> {
     Ok(())
 }
 
+#[test]
+fn bands_are_chosen(rt: HostRuntime) -> Result<(), Fail> {
+    let tuple = Tuple::single(0, 0);
+    let legal = [
+        probe(1, Via::Range(2)),
+        all(1),
+        probe(1, Via::Band(2)),
+        probe(3, Via::Band(7)),
+        probe(2, Via::Literal(5)),
+    ];
+    // the place among all five, and among the first four
+    let scripts = [
+        ("", 4, 2),
+        ("w2", 2, 2),
+        ("v2", 0, 0),
+        ("w7", 3, 3),
+        ("v7,w3", 4, 2),
+        ("w8,v7,a1", 1, 1),
+    ];
+    for (text, five, four) in scripts {
+        let mut script = RouteScript::read(text)?;
+        assert_eq!(rt; script.choose(&tuple, &legal), five, "of {text}");
+        assert_eq!(rt; script.choose(&tuple, &legal[..4]), four, "of {text}");
+    }
+    let mut pressure = Pressure::new();
+    assert_eq!(rt; pressure.choose(&tuple, &legal), 4);
+    assert_eq!(rt; pressure.choose(&tuple, &legal[..4]), 2);
+    assert_eq!(rt; pressure.choose(&tuple, &legal[..4]), 3);
+    // a kill, then nothing is expected of either band, and then 192 - 4 beside 0
+    let mut greedy = Greedy::new();
+    assert_eq!(rt; greedy.choose(&tuple, &legal[..4]), 1);
+    greedy.touched(1);
+    assert_eq!(rt; greedy.choose(&tuple, &legal[..4]), 2);
+    assert_eq!(rt; after(&mut greedy, &legal[..4], 2, 3), 3);
+    let mut lottery = Lottery::new(1);
+    for _ in 0..40 {
+        let place = lottery.choose(&tuple, &legal[..4]);
+        assert_eq!(rt; place == 2 || place == 3, true);
+    }
+    Ok(())
+}
+
 /// So many words `b` with a comma behind each, and a last word.
 fn long_script(alloc: Global, count: u64, last: &str) -> Result<String, AllocError> {
     let mut text = String::new(alloc);
@@ -245,7 +287,13 @@ fn long_script(alloc: Global, count: u64, last: &str) -> Result<String, AllocErr
 #[test]
 fn scripts_are_read(rt: HostRuntime) -> Result<(), Fail> {
     let alloc = rt.alloc();
-    let in_form = ["", "b", "s0,s47,a0,a11,v0,v47,b,s9,v10", "b,b"];
+    let in_form = [
+        "",
+        "b",
+        "s0,s47,a0,a11,v0,v47,b,s9,v10",
+        "b,b",
+        "w0,w47,v3,w10",
+    ];
     for text in in_form {
         assert_eq!(rt; RouteScript::read(text).err(), None, "of {text}");
     }
@@ -265,6 +313,10 @@ fn scripts_are_read(rt: HostRuntime) -> Result<(), Fail> {
         ("v+1", 0),
         ("s:", 0),
         ("v/", 0),
+        ("w", 0),
+        ("w48", 0),
+        ("w07", 0),
+        ("b,w1w", 2),
         ("a9,v10,sx,q", 7),
         ("v7,s123", 3),
         ("s1,é", 3),

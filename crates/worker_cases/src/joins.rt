@@ -28,6 +28,7 @@ const CASES: &str = "\
 6 3 0,0 0,1 1,2 | s 1 s s | SELECT name, amt FROM cust c, ord o WHERE c.id = o.cid
 6 2 0,0 1,0 2,1 | 0 s s s | SELECT name, amt FROM ord o, cust c WHERE o.cid = c.id
 6 0 0,1 0,2 1,2 | s s s s | SELECT a.x AS p, b.x AS q FROM n a, n b WHERE a.x < b.x
+7 0 0,0 0,1 0,2 1,0 1,1 1,2 2,1 2,2 | s s s s | SELECT p.x FROM ord o, n p WHERE p.x BETWEEN o.cid AND o.amt
 3 0 0,0 1,0 2,0 | s s s s | SELECT x FROM n
 0 0 | s s s s | SELECT x FROM e";
 

@@ -27,10 +27,6 @@ deep t=1|0|0|7
 
 const QUERY: &[u8] = b"SELECT * FROM t, u WHERE t.c = u.d";
 
-const SPENDERS: &[u8] =
-    b"-- big spenders\nselect p.name as who, o.total from people p join orders o \
-    on o.person = p.id where o.total between 50 and 200 and p.city is not null order by o.total desc, who;";
-
 fn words_of(alloc: Global, text: &str) -> Result<Vec<String>, Fail> {
     let mut words = Vec::new(alloc);
     words.push(String::from_str(alloc, "eddyql")?)?;
@@ -58,11 +54,6 @@ fn folder_of(alloc: Global, script: &[u8], first: &[u8]) -> Result<MemoryFolder,
     folder.keep("3", b"c,d\n1\n")?;
     let deep = repeated(alloc, b"SELECT c FROM t WHERE ", 65, b"(")?;
     folder.keep("deep", &deep)?;
-    folder.keep(
-        "people",
-        b"\xEF\xBB\xBFid,name,city\r\n1,\"Ng, Ada\",Oslo\r\n2,Bob,\r\n",
-    )?;
-    folder.keep("orders", b"oid,person,total\n7,1,120\n8,2,80\n9,1,35\n")?;
     Ok(folder)
 }
 
@@ -142,22 +133,5 @@ fn of_a_size(rt: HostRuntime) -> Result<(), Fail> {
     nested.extend_from_slice(repeated(alloc, b"", 64, b"(")?.as_slice())?;
     nested.extend_from_slice(repeated(alloc, b"c = 1", 64, b")")?.as_slice())?;
     assert_eq!(rt; written_by(&rt, alloc, "q t=1", &nested, b"c\n1\n", 0)?, 4);
-    Ok(())
-}
-
-// Each front of a script, cut at each byte, is done or isn't a script, and what isn't writes nothing.
-#[test]
-fn fronts_of_a_script(rt: HostRuntime) -> Result<(), Fail> {
-    let texts = "q people=people orders=orders";
-    assert_eq!(rt; written_by(&rt, rt.alloc(), texts, SPENDERS, b"", 0)?, 24);
-    for end in 0..SPENDERS.len() {
-        let front = &SPENDERS[..end];
-        let refused = written_by(&rt, rt.alloc(), texts, front, b"", 3)?;
-        if refused == usize::MAX {
-            assert!(rt; written_by(&rt, rt.alloc(), texts, front, b"", 0)? != usize::MAX);
-        } else {
-            assert_eq!(rt; refused, 0);
-        }
-    }
     Ok(())
 }

@@ -38,10 +38,15 @@ people | \u{feff}id,name,city^/1,\"Ng, Ada\",Oslo^/2,Bob,^/\n\
 orders | oid,person,total/7,1,120/8,2,80/9,1,35/\n\
 p | sku,cost:dec2/1,1.5/2,10/3,-0.25/4,/\n\
 r | rate:dec3/1.500/10.000/\n\
-wide | c1,c2,c3,c4,c5,c6,c7,c8,c9,c10,c11,c12,c13,c14,c15,c16,c17,c18,c19,c20,c21,c22,c23,c24,c25,c26,c27,c28,c29,c30\
-    ,c31,c32,c33,c34,c35,c36,c37,c38,c39,c40,c41,c42,c43,c44,c45,c46,c47,c48,c49,c50,c51,c52,c53,c54,c55,c56,c57,c58,\
-    c59,c60,c61,c62,c63,c64,c65/\n\
+wide | a1,a2,a3,a4,a5,a6,a7,a8,a9,a10,a11,a12,a13,a14,a15,a16,a17,a18,a19,a20,a21,a22,a23,a24,a25,a26,a27,a28,a29,a30\
+    ,a31,a32,a33,a34,a35,a36,a37,a38,a39,a40,a41,a42,a43,a44,a45,a46,a47,a48,a49,a50,a51,a52,a53,a54,a55,a56,a57,a58,\
+    a59,a60,a61,a62,a63,a64,a65/\n\
 nothing | \n\
+odd | ~\n\
+large | x:int/9223372036854775808/\n\
+cut | x/1\n\
+xyz | x,y,z/1,2,3/\n\
+most | max,min/1,2/\n\
 ";
 
 const SPENDERS: &str =
@@ -105,6 +110,9 @@ const TALLIED: &str = "\
     .oid |  | 0 Done | oid/10/10/11/12/ | query 1: built 4,4 hops 5 looked 0/\n\
 ! --tally --policy pressure q ord=ord | SELECT o.oid FROM ord o, ord p WHERE o.cid = p.cid AND o.oid <= p.oid |  | 0 \
     Done | oid/10/10/11/12/ | query 1: built 4,4 hops 4 looked 0/\n\
+! --tally --policy script --route b q people=people orders=orders | -- big spenders/select p.name as who, o.total f\
+    rom people p join orders o on o.person = p.id where o.total between 50 and 200 and p.city is not null order by o\
+    .total desc, who; |  | 0 Done | who,total/\"Ng, Ada\",120/ | query 1: built 2,3 hops 6 looked 0/\n\
 ! --tally q cust=cust ord=ord | SELECT name, amt FROM cust c, ord o WHERE c.id = o.cid ORDER BY amt DESC | note 3 \
     | 6 Write | name,amt/Ada,7/Ada,5/Bob,5/ | que\n\
 ! --tally q n=n | SELECT x FROM n; SELECT x FROM n | note 45 | 6 Write | x/1/2/3//x/1/2/3/ | query 1: built 3 hops \
@@ -303,7 +311,7 @@ fn number(fault: &str, word: &str, place: usize) -> Option<usize> {
 fn folder_of(alloc: Global, script: &[u8]) -> Result<MemoryFolder, Fail> {
     let mut folder = MemoryFolder::new(alloc);
     folder.keep("q", script)?;
-    for line in FILES.lines() {
+    for line in FILES.lines().chain(remotes::REMOTE_FILES.lines()) {
         let mut parts = line.split(" | ");
         let name = parts.next().unwrap_or("");
         let bytes = bytes_of(alloc, parts.next().unwrap_or(""))?;
@@ -312,13 +320,13 @@ fn folder_of(alloc: Global, script: &[u8]) -> Result<MemoryFolder, Fail> {
     Ok(folder)
 }
 
-fn sink_of(alloc: Global, fault: &str) -> Result<MemorySink, Fail> {
-    let room = number(fault, "room", 0).unwrap_or(999);
-    let mut out = MemorySink::with_room(alloc, room)?;
-    if let Some(put) = number(fault, "put", 0) {
-        out.fail_at(put as u64, number(fault, "put", 1).unwrap_or(0))?;
+// A sink whose room, and the put at which it fails after some bytes, are behind these words of a fault.
+fn sink_of(alloc: Global, fault: &str, room: &str, put: &str) -> Result<MemorySink, Fail> {
+    let mut sink = MemorySink::with_room(alloc, number(fault, room, 0).unwrap_or(999))?;
+    if let Some(call) = number(fault, put, 0) {
+        sink.fail_at(call as u64, number(fault, put, 1).unwrap_or(0))?;
     }
-    Ok(out)
+    Ok(sink)
 }
 
 // How a run ends, and what is written and noted.
@@ -329,8 +337,8 @@ fn told<R: Threads + Wait + Sync>(rt: &R, alloc: Global, case: Case<'_>) -> Resu
     if let Some(load) = number(case.fault, "load", 0) {
         folder.fail_at(load as u64)?;
     }
-    let out = sink_of(alloc, case.fault)?;
-    let notes = MemorySink::with_room(alloc, number(case.fault, "note", 0).unwrap_or(999))?;
+    let out = sink_of(alloc, case.fault, "room", "put")?;
+    let notes = sink_of(alloc, case.fault, "note", "noted")?;
     let host = Host {
         rt,
         alloc,
@@ -358,6 +366,8 @@ fn runs_end_as_they_must(rt: HostRuntime) -> Result<(), Fail> {
         DEMO,
         shaped::SHAPED,
         shared::SHARED,
+        remotes::REMOTE,
+        remotes::REFUSED_REMOTE,
     ] {
         for line in cases.lines() {
             if !told(&rt, rt.alloc(), case_of(line))? {
@@ -474,7 +484,10 @@ fn sure_folder_and_sink(rt: HostRuntime) -> Result<(), Fail> {
 }
 
 mod engine;
+mod headings;
+mod hostile;
 mod limits;
+mod remotes;
 mod shaped;
 mod shared;
 mod workers;

@@ -32,6 +32,11 @@ const MORE_WORDS: &str = "a.z|b.z|c.z|b.z|c.z|'b'";
 
 const SIGNS: &str = "=|=|=|=|<|<=|>|>=|<>";
 
+/// The columns of numbers that bands are of.
+const COLUMNS: &str = "a.x|b.x|a.y|b.y";
+
+const MORE_COLUMNS: &str = "a.x|b.x|c.x|a.y|b.y|c.y";
+
 // One of the words of a list with this sign between.
 fn pick(draw: &mut Draw, words: &'static str, between: char) -> &'static str {
     let count = words.split(between).count();
@@ -81,7 +86,42 @@ fn comparison(alloc: Global, draw: &mut Draw, three: bool) -> Result<String, Fai
     Ok(format!(in alloc; "{left} {sign} {right}")?)
 }
 
-// A conjunct: mostly a comparison.
+// An end of a column, a lower or an upper one, either side first.
+fn end(
+    alloc: Global,
+    draw: &mut Draw,
+    column: &str,
+    other: &str,
+    lower: bool,
+) -> Result<String, Fail> {
+    let (sign, turned) = match (lower, draw.below(2)) {
+        (true, 0) => (">", "<"),
+        (true, _) => (">=", "<="),
+        (false, 0) => ("<", ">"),
+        (false, _) => ("<=", ">="),
+    };
+    match draw.below(2) {
+        0 => Ok(format!(in alloc; "{column} {sign} {other}")?),
+        _ => Ok(format!(in alloc; "{other} {turned} {column}")?),
+    }
+}
+
+// Both ends of a column side by side: by BETWEEN, or one after the other.
+fn band(alloc: Global, draw: &mut Draw, three: bool) -> Result<String, Fail> {
+    let columns = if three { MORE_COLUMNS } else { COLUMNS };
+    let column = pick(draw, columns, '|');
+    let one = pick(draw, columns, '|');
+    let other = pick(draw, columns, '|');
+    if draw.below(2) == 0 {
+        return Ok(format!(in alloc; "{column} BETWEEN {one} AND {other}")?);
+    }
+    let lower = draw.below(2) == 0;
+    let first = end(alloc, draw, column, one, lower)?;
+    let second = end(alloc, draw, column, other, !lower)?;
+    Ok(format!(in alloc; "{first} AND {second}")?)
+}
+
+// A conjunct, which is mostly a comparison, or the two of a band.
 fn conjunct(alloc: Global, draw: &mut Draw, three: bool) -> Result<String, Fail> {
     let one = comparison(alloc, draw, three)?;
     match draw.below(12) {
@@ -90,11 +130,12 @@ fn conjunct(alloc: Global, draw: &mut Draw, three: bool) -> Result<String, Fail>
             let other = comparison(alloc, draw, three)?;
             Ok(format!(in alloc; "({one} OR {other})")?)
         }
+        2 | 3 => band(alloc, draw, three),
         _ => Ok(one),
     }
 }
 
-/// A statement over two of them or all, with two to five conjuncts.
+/// A statement over two of them or all, with two to five conjuncts or bands.
 pub fn query(alloc: Global, draw: &mut Draw) -> Result<String, Fail> {
     let sources = match draw.below(4) {
         0 => SELF,

@@ -113,8 +113,8 @@ x NOT BETWEEN 1 AND 2 | \
     [RawTerm { at: 22, negative: false, number: None, column: Some(ColRef { alias: \
     None, column: Name { text: SqText { text: \"x\" }, at: 22 } }) }] } }, low: Sum { at: \
     36, terms: Items { items: [RawTerm { at: 36, negative: false, number: Some(1), \
-    column: None }] } }, high: Sum { at: 42, terms: Items { items: [RawTerm { at: 42, \
-    negative: false, number: Some(2), column: None }] } } }\n\
+    column: None }] } }, high: Boxed { inner: Sum { at: 42, terms: Items { items: [RawTerm { at: 42, \
+    negative: false, number: Some(2), column: None }] } } } }\n\
 x IN (1, NULL) | \
     Within { at: 22, negated: false, subject: Sum { at: 22, terms: Items { items: \
     [RawTerm { at: 22, negative: false, number: None, column: Some(ColRef { alias: \
@@ -252,8 +252,8 @@ Some(Name { text: SqText { text: \"o\" }, at: 99 }), \
 column: Name { text: SqText { text: \"total\" }, at: 101 } }) }] } }, \
 low: Sum { at: 115, terms: Items { items: [\
 RawTerm { at: 115, negative: false, number: Some(50), column: None }] } }, \
-high: Sum { at: 122, terms: Items { items: [\
-RawTerm { at: 122, negative: false, number: Some(200), column: None }] } } }, \
+high: Boxed { inner: Sum { at: 122, terms: Items { items: [\
+RawTerm { at: 122, negative: false, number: Some(200), column: None }] } } } }, \
 IsNull { at: 130, negated: true, subject: Sum { at: 130, terms: Items { items: [\
 RawTerm { at: 130, negative: false, number: None, column: Some(ColRef { alias: \
 Some(Name { text: SqText { text: \"p\" }, at: 130 }), \

@@ -41,5 +41,5 @@ loop-lane-preserved g c =
 
 pub returns-clause-lanes : goal.returns-clause-lanes
 returns-clause-lanes g c =
-    let all : c.loop-lane.lane ≡ 1800 = omega (arith, c.loop-lane-test.false, c.loop-lane.auto.lane-end) in
+    let all : c.loop-lane.lane ≡ 2376 = omega (arith, c.loop-lane-test.false, c.loop-lane.auto.lane-end) in
     c.loop-lane.invariant.0 ∙ ap (taken_lanes c.args.counter.now.given) all

@@ -8,6 +8,7 @@ use crate::asking::asked;
 use crate::planning::plan_for;
 use bag_meaning::Built;
 use eddy_core::{Answered, run_one};
+use result_sink::{in_order, write_answer};
 use route_policy::Lottery;
 use run_base::Bound;
 use sq_value::{ColType, Kinds, Predicates, Tables, Truth, Value};
@@ -81,6 +82,47 @@ fn calls_under<R: Threads + Wait + Sync>(
 #[test]
 fn one_worker_is_an_eddy(rt: HostRuntime) -> Result<(), Fail> {
     assert_eq!(rt; calls_under(&rt, rt.alloc(), "v1")?, Some(3));
+    Ok(())
+}
+
+const TIED: &str = "SELECT name, amt FROM cust c, ord o WHERE c.id = o.cid ORDER BY amt DESC";
+
+// What is written of the matches that a run finds, put in order.
+#[tactic(auto, using(run_answers::proofs::AnswerLemmas::apart_found, run_answers::proofs::AnswerLemmas::shown_fit, run_answers::proofs::AnswerLemmas::ordered_fit))]
+fn written_of<P: Predicates>(
+    alloc: Global,
+    bound: &Bound,
+    tables: &Tables,
+    functions: &P,
+) -> Result<SureSink, Fail>
+    requires { IsRunnable (P.kinds_of functions.now) tables.now bound.now }
+{
+    let mut lottery = Lottery::new(1);
+    let answered = run_one(alloc, &bound.block, tables, &mut lottery, functions)?;
+    let combos = in_order(&bound.block, tables, answered.combos)?;
+    let mut out = SureSink::with_room(alloc, 99)?;
+    write_answer(alloc, &bound.block, tables, &combos, &mut out)?;
+    Ok(out)
+}
+
+// A tie keeps the order of the product, also where the matches are ordered and written one call after another.
+#[test]
+fn matches_in_order_are_the_answer(rt: HostRuntime) -> Result<(), Fail> {
+    let alloc = rt.alloc();
+    let words = words_of(alloc, "cust ord")?;
+    let mut folder = folder_of(alloc, TIED.as_bytes())?;
+    let Ok(request) = asked(alloc, &words) else {
+        assert_eq!(rt; "no request", "a request");
+        return Ok(());
+    };
+    let Ok(plan) = plan_for(alloc, &request, &mut folder, &NoPredicates) else {
+        assert_eq!(rt; "no plan", "a plan");
+        return Ok(());
+    };
+    for bound in plan.statements.as_slice() {
+        let out = written_of(alloc, bound, plan.catalogue.tables(), &NoPredicates)?;
+        assert!(rt; out.written() == b"name,amt\nAda,7\nAda,5\nBob,5\n".as_slice());
+    }
     Ok(())
 }
 

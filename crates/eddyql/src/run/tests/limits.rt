@@ -6,7 +6,7 @@ ghost use Rattle.outside.specs.Faults.{shown-bounded};
 use super::*;
 use outside::LoadFault;
 
-// A script of the most blanks, one of a byte more, and numbers of statements and conjuncts at their limits.
+// A script of the most blanks, one of a byte more, and numbers of conjuncts at their limit.
 #[test]
 fn at_limits(rt: HostRuntime) -> Result<(), Fail> {
     let alloc = rt.alloc();
@@ -17,21 +17,6 @@ fn at_limits(rt: HostRuntime) -> Result<(), Fail> {
     let long = vec![in alloc; b' '; 67_108_865]?;
     let of_script = "Limit { of: File { file: Script } }";
     assert!(rt; ended(&rt, alloc, "n", &long, of_script, "limit: file of script\n")?);
-    let mut text = Vec::new(alloc);
-    for _ in 0..65 {
-        text.extend_from_slice(b"SELECT x FROM n;")?;
-    }
-    let many = "Limit { of: Parse { fault: TooManyStatements { at: 1024 } } }";
-    assert!(rt;
-        ended(
-            &rt,
-            alloc,
-            "n",
-            &text,
-            many,
-            "limit: statements at byte 1024\n"
-        )?
-    );
     let mut text = Vec::new(alloc);
     text.extend_from_slice(b"SELECT x FROM n WHERE x=1")?;
     for _ in 0..47 {

@@ -1,4 +1,4 @@
-use Rattle.std.proofs.Common.{List, ◌∷◌, map, sym, ap, ◌∙◌}
+use Rattle.std.proofs.Common.{List, [], ◌∷◌, map, sym, ap, ◌∙◌}
 use Rattle.std.specs.List.{flat_map}
 use Rattle.sq_parse.specs.declared.tree.Tree.{Tree}
 use Rattle.sq_bind.specs.Fault.{first_of}
@@ -21,7 +21,8 @@ tree_fault-returns-in-Between g t c =
     let calls = calling (g.F.Predicates.number_of c.args.functions.now) (g.F.Predicates.kinds_of c.args.functions.now) in
     let aliases = map seen c.args.aliases.now in
     let of = λ (tree : Tree). first_of (tree_faults calls aliases tree) in
-    c.between_fault.ensures ∙ sym (ap of c.in-Between.is ∙ ap first_of (by.tree_faults-Between calls aliases _ _ _ _ _))
+    c.between_fault.ensures ∙ ap (λ (high : Operand). first_of (compared_faults aliases c.in-Between.at (c.in-Between.subject ∷ c.in-Between.low ∷ high ∷ []))) c.get.ensures
+    ∙ sym (ap of c.in-Between.is ∙ ap first_of (by.tree_faults-Between calls aliases _ _ _ _ _))
 
 pub tree_fault-returns-in-Within : goal.tree_fault-returns-in-Within
 tree_fault-returns-in-Within g t c =
@@ -51,7 +52,7 @@ tree_fault-returns-in-Not g t c =
     let calls = calling (g.F.Predicates.number_of c.args.functions.now) (g.F.Predicates.kinds_of c.args.functions.now) in
     let aliases = map seen c.args.aliases.now in
     let of = λ (tree : Tree). first_of (tree_faults calls aliases tree) in
-    c.tree_fault.ensures ∙ ap of c.get.ensures ∙ sym (ap of c.in-Not.is ∙ ap first_of (by.tree_faults-Not calls aliases _))
+    c.tree_fault.ensures ∙ ap of c.get-in-Not.ensures ∙ sym (ap of c.in-Not.is ∙ ap first_of (by.tree_faults-Not calls aliases _))
 
 pub tree_fault-returns-in-All : goal.tree_fault-returns-in-All
 tree_fault-returns-in-All g t c =

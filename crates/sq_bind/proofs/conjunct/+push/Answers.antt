@@ -1,11 +1,18 @@
 use Rattle.std.proofs.Common.{◌≡◌, OnOk, List, ◌++◌, map, sym, ap, subst, ◌∙◌}
 use Rattle.std.specs.List.{flat_map}
+use Rattle.sq_parse.specs.declared.tree.Operand.{Operand}
 use Rattle.sq_parse.specs.declared.tree.Tree.{Tree}
+use Rattle.sq_parse.specs.declared.tree.Tree.TheVariants as parsed
 use Rattle.sq_bind.specs.Condition.{Split, calling, split_of, conjuncts_in}
 use Rattle.sq_bind.specs.Seen.{seen}
 use Rattle.sq_bind.specs.declared.conjunct.Placed.{Placed}
 use Rattle.sq_bind.proofs.SplitLemmas as by
 use Rattle.sq_bind.proofs.conjunct.+push.Goals as goal
+
+pub push_conjuncts-push_between-requires : goal.push_conjuncts-push_between-requires
+push_conjuncts-push_between-requires g t c =
+    c.in-Between.is
+    ∙ ap (λ (high : Operand). parsed.Between c.in-Between.at c.in-Between.negated c.in-Between.subject c.in-Between.low high) (sym c.get.ensures)
 
 pub push_conjuncts-returns-in-Compare : goal.push_conjuncts-returns-in-Compare
 push_conjuncts-returns-in-Compare g t c =

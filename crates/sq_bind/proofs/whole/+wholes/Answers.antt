@@ -1,9 +1,9 @@
-use Rattle.std.proofs.Common.{◌≡◌, IfOk, List, map, sym, ap, subst, ◌∙◌}
+use Rattle.std.proofs.Common.{◌≡◌, IfOk, List, [], ◌∷◌, map, sym, ap, subst, ◌∙◌}
 use Rattle.sq_parse.specs.declared.tree.Tree.{Tree}
 use Rattle.sq_parse.specs.declared.tree.Operand.{Operand}
 use Rattle.sq_expr.specs.declared.cond.Cond.{Cond}
 use Rattle.sq_expr.specs.declared.cond.Cond.TheVariants as cond
-use Rattle.sq_bind.specs.Condition.{Split, calling, whole_in, negated_if, any_equal, equal_to, call_of}
+use Rattle.sq_bind.specs.Condition.{Split, calling, whole_in, negated_if, at_least, at_most, any_equal, equal_to, call_of}
 use Rattle.sq_bind.specs.Seen.{seen}
 use Rattle.sq_bind.proofs.SplitLemmas as by
 use Rattle.sq_bind.proofs.whole.+wholes.Goals as goal
@@ -22,7 +22,8 @@ whole_of-returns-in-Between g t c =
     let aliases = map seen c.args.aliases.now in
     let whole = λ (s : Split). s.whole in
     let is = ap (whole_in calls aliases) c.in-Between.is in
-    subst (λ (w : Cond). IfOk c.between_whole.result (λ x. x ≡ w)) (sym (is ∙ ap whole (by.split_of-Between calls aliases _ _ _ _ _))) c.between_whole.ensures
+    let bounds = λ (high : Operand). negated_if c.in-Between.negated (cond.All (at_least aliases c.in-Between.subject c.in-Between.low ∷ at_most aliases c.in-Between.subject high ∷ [])) in
+    subst (λ (w : Cond). IfOk c.between_whole.result (λ x. x ≡ w)) (ap bounds c.get.ensures ∙ sym (is ∙ ap whole (by.split_of-Between calls aliases _ _ _ _ _))) c.between_whole.ensures
 
 pub whole_of-returns-in-Within : goal.whole_of-returns-in-Within
 whole_of-returns-in-Within g t c =
@@ -56,7 +57,7 @@ whole_of-returns-in-Not g t c =
     let aliases = map seen c.args.aliases.now in
     let whole = λ (s : Split). s.whole in
     let is = ap (whole_in calls aliases) c.in-Not.is in
-    subst (λ (w : Cond). IfOk c.not_whole.result (λ x. x ≡ w)) (ap (λ (part : Tree). cond.Not (whole_in calls aliases part)) c.get.ensures ∙ sym (is ∙ ap whole (by.split_of-Not calls aliases _))) c.not_whole.ensures
+    subst (λ (w : Cond). IfOk c.not_whole.result (λ x. x ≡ w)) (ap (λ (part : Tree). cond.Not (whole_in calls aliases part)) c.get-in-Not.ensures ∙ sym (is ∙ ap whole (by.split_of-Not calls aliases _))) c.not_whole.ensures
 
 pub whole_of-returns-in-All : goal.whole_of-returns-in-All
 whole_of-returns-in-All g t c =

@@ -28,4 +28,4 @@ returns-in_err-high c =
 pub returns : goal.returns
 unfolding read.between
 returns c =
-    rw (c.in_ok-expect.ensures.0, rw c.in_ok-expect.ensures.1 at c.in_ok-low.ensures, c.in_ok-expect-2.ensures.0, rw c.in_ok-expect-2.ensures.1 at c.in_ok-high.ensures, c.begin_of.ensures) refl
+    rw (c.in_ok-expect.ensures.0, rw c.in_ok-expect.ensures.1 at c.in_ok-low.ensures, c.in_ok-expect-2.ensures.0, rw c.in_ok-expect-2.ensures.1 at c.in_ok-high.ensures, c.in_ok-high-2.ensures, c.begin_of.ensures) refl
