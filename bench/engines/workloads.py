@@ -242,6 +242,12 @@ def star_by_four(rows):
         routes=routes((3, 4, 5), range(3)))
 
 
+def orders_of(count):
+    """Three orders of joins that are alike: from the first to the last, back, and from the middle."""
+    one = list(range(count))
+    return one, one[::-1], one[count // 2 :] + one[: count // 2]
+
+
 def knot(name, rows, keys, pairs):
     """Four tables, of which each of these pairs is joined by a column of its own."""
     columns = {i: [f"k{a}{b}" for a, b in pairs if i in (a, b)] for i in range(1, 5)}
@@ -253,7 +259,8 @@ def knot(name, rows, keys, pairs):
     return Workload(
         name, f"a {name} of four tables of {rows:,} rows, each two that are joined by a column with {keys:,} keys",
         [Table(f"{name}{i}", ["id int", *(f"{it} int" for it in columns[i])], of(len(columns[i])), rows) for i in range(1, 5)],
-        [f"SELECT x1.id, x2.id, x3.id, x4.id FROM {', '.join(f'{name}{i} x{i}' for i in range(1, 5))} WHERE {joins}"])
+        [f"SELECT x1.id, x2.id, x3.id, x4.id FROM {', '.join(f'{name}{i} x{i}' for i in range(1, 5))} WHERE {joins}"],
+        routes=[",".join([*(f"s{it}" for it in one), "b", *(f"v{it}" for it in one)]) for one in orders_of(len(pairs))])
 
 
 def composite(rows, tables):
