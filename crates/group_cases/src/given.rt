@@ -5,7 +5,9 @@ ghost use Rattle.sq_value.specs.declared.value.ColType.TheVariants as kind;
 ghost use Rattle.group_cases.specs.Ones.{Fall, IsOne, case_columns};
 
 use bag_meaning::Combo;
-use sq_expr::{Access, AggKind, AliasUse, Block, Cell, ColumnOf, Conjuncts, Shape, ShapeOrder, SortOn};
+use sq_expr::{
+    Access, AggKind, AliasUse, Block, Cell, ColumnOf, Conjuncts, Shape, ShapeOrder, SortOn,
+};
 use sq_value::{ColType, Column, Dec, Memory, SortWay, SqText, Table, Tables, Value};
 use sqlite_items::Items;
 use std::alloc::Global;
