@@ -64,6 +64,14 @@ def read(path):
         return it.read()
 
 
+def flat(text):
+    """The lines of a spec, where those of a module with parameters stand as those outside."""
+    inside = False
+    for line in text.split("\n"):
+        inside = line.startswith("module ") or inside and not re.match(r"[^\s-]", line)
+        yield line[2:] if inside and line.startswith("  ") else line
+
+
 def definitions(repository, crate):
     """The public definitions of a crate's specs/, by module and name."""
     start = re.compile(r"^(?:(?P<kind>abbrev|unfoldable|opaque|irreducible)\s+)?pub\s+(?P<rest>\S.*)$")
@@ -71,7 +79,7 @@ def definitions(repository, crate):
     for file in repository.files(crate, "specs", ".antt"):
         module = module_of(file, "specs")
         comment = []
-        for number, line in enumerate(repository.text(file).split("\n"), 1):
+        for number, line in enumerate(flat(repository.text(file)), 1):
             if line.startswith("--"):
                 comment.append(line.lstrip("-").strip())
                 continue
@@ -362,8 +370,11 @@ def bodies(repository, crate):
         module, text = module_of(file, "specs"), repository.text(file)
         words, aliases = spec_imports(text)
         now = None
-        for number, line in enumerate(text.split("\n"), 1):
-            if not line.strip() or line.startswith(("--", "use ", "infix", "prefix", "postfix", "pub mod ", "mod ")):
+        for number, line in enumerate(flat(text), 1):
+            if line.startswith("module "):
+                now = None
+                continue
+            if not line.strip() or line.startswith(("use ", "infix", "prefix", "postfix", "pub mod ", "mod ")) or line.lstrip().startswith("--"):
                 continue
             said = START.match(line)
             if said and said["name"] != now:
@@ -375,8 +386,19 @@ def bodies(repository, crate):
             for at, (file, number, lines, words, aliases) in found.items()}
 
 
+def fields_of(body):
+    """The texts of a record's fields, by name, and under '' what comes before the first."""
+    found, now = {"": []}, ""
+    for line in body.text.split("\n"):
+        said = re.match(rf"  (?:pub\s+)?({NAME})\s*:", line)
+        now = said[1] if said else now
+        found.setdefault(now, []).append(line)
+    return {name: "\n".join(lines) for name, lines in found.items()}
+
+
 def chains(repository):
-    """Which of the repository's definitions each definition cites, as a function from (crate, module, name) to a list."""
+    """The bodies of all definitions, by crate, and a function that says which of them one cites, by its (crate, module, name);
+    with a text, which of them that part of it cites."""
     known = {crate: bodies(repository, crate) for crate in repository.crates}
 
     def place(module, name):
@@ -386,11 +408,12 @@ def chains(repository):
         inside = ".".join(parts[3:])
         return (parts[1], inside, name) if (inside, name) in known[parts[1]] else None
 
-    def cites(at):
+    def cites(at, text=None):
         crate, module, name = at
         body = known[crate][module, name]
+        text = body.text if text is None else text
         found = []
-        for dotted in re.findall(rf"{NAME}(?:\.{NAME})*", body.text):
+        for dotted in re.findall(rf"{NAME}(?:\.{NAME})*", text):
             first, _, rest = dotted.partition(".")
             if first in body.words:
                 found.append(place(*body.words[first]))
@@ -400,7 +423,7 @@ def chains(repository):
                 found.append((crate, module, first))
         for word, where in body.words.items():
             parts = [it for it in word.split("◌") if it]
-            if "◌" in word and parts and all(it in body.text for it in parts):
+            if "◌" in word and parts and all(it in text for it in parts):
                 found.append(place(*where))
         return [it for it in dict.fromkeys(found) if it and it != at]
 

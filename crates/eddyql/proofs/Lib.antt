@@ -9,4 +9,5 @@ pub mod ShareLemmas
 pub mod EndedLemmas
 pub mod RunLemmas
 pub mod RanLemmas
+pub mod HeadlineLemmas
 pub mod ShippingLemmas

@@ -3,4 +3,5 @@ pub mod Outcome
 pub mod Run
 pub mod Lines
 pub mod Shipped
+pub mod Headline
 pub mod Ending

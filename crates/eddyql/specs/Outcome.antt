@@ -62,10 +62,6 @@ pub record IsGivenFor (t : Task) (holds : Option (List File)) (given : RunGiven)
 abbrev pub IsGivenTo : List (List ℕ) → Option (List File) → RunGiven → Type 0
 IsGivenTo words holds given = (a : Request) → asked words ≡ Some a → IsGivenFor a.task holds given
 
--- this holds of what is given to words by a folder
-abbrev pub OverGiven : List (List ℕ) → Option (List File) → (RunGiven → Type 0) → Type 0
-OverGiven words holds P = (given : RunGiven) × IsGivenTo words holds given × P given
-
 -- the plan of a script over tables, or of the demo with this seed
 abbrev pub IsTaskPlan : Predicates → Task → ℕ → Given → Result Plan Status → Type 0
 IsTaskPlan p (task.Query q) seed given due = IsPlan p q given due

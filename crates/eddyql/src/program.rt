@@ -1,20 +1,14 @@
 //! The program over any folder and outputs: from the words that it was started with to the code
 //! that it ends with.
 
-ghost use Rattle.std.specs.Prelude.{◌≡◌, ◌⊎◌, ◌++◌, true, List, Some, None, IfOk, map, drop};
+ghost use Rattle.std.specs.Prelude.{◌≡◌, IfOk, map, drop};
 ghost use Rattle.std.specs.Process.{exit_status};
 ghost use Rattle.std.specs.String.{string_bytes};
 ghost use Rattle.std.specs.Vec.Iter.{into_iter_items};
-ghost use Rattle.outside.specs.Faults.{RoseOrFull};
-ghost use Rattle.outside.specs.Told.{Adds};
 ghost use Rattle.run_base.specs.Seen.{world_seen};
 ghost use Rattle.run_plan.specs.Prepared.{predicates};
 ghost use Rattle.run_plan.specs.Stage.{stage_of, code_of};
-ghost use Rattle.run_plan.specs.declared.status.Status.{Status as Ending};
-ghost use Rattle.eddyql.specs.Asked.{asked, are_fileless};
-ghost use Rattle.eddyql.specs.Ending.{Finished};
-ghost use Rattle.eddyql.specs.Lines.{MayFail};
-ghost use Rattle.eddyql.specs.Outcome.{Due, IsOutcome, OverGiven, status_of, text_due};
+ghost use Rattle.eddyql.specs.Headline.{HeadlineByCode};
 
 use crate::host::Host;
 use crate::run::run;
@@ -78,31 +72,11 @@ pub fn program<
     folder: &mut F,
     outputs: &mut Outputs<O, N>,
 ) -> ExitCode
-    ensures usage { asked (drop 1 (map string_bytes words.now)) ≡ None
-        → (exit_status result ≡ 2) ⊎ (exit_status result ≡ 9) }
-    ensures done { let p = predicates (P.number_of functions.now) (P.kinds_of functions.now) P.gives in
-        exit_status result ≡ 0 → OverGiven (drop 1 (map string_bytes words.now)) (F.holds folder.old) (λ given.
-        (due : Due) × IsOutcome p (drop 1 (map string_bytes words.now)) given due × (due.refusal ≡ None)
-        × Adds outputs.old.out.written outputs.new.out.written (text_due p (drop 1 (map string_bytes words.now)) due)) }
-    ensures refused { let p = predicates (P.number_of functions.now) (P.kinds_of functions.now) P.gives in
-        OverGiven (drop 1 (map string_bytes words.now)) (F.holds folder.old) (λ given.
-        (due : Due) → IsOutcome p (drop 1 (map string_bytes words.now)) given due
-        → (s : Ending) × (exit_status result ≡ code_of (stage_of s)) × (due.refusal ≡ Some s
-        → Adds outputs.old.out.written outputs.new.out.written
-        (text_due p (drop 1 (map string_bytes words.now)) due))) }
-    ensures complete { let p = predicates (P.number_of functions.now) (P.kinds_of functions.now) P.gives in
-        ¬ (RoseOrFull (F.faults folder.old) (F.faults folder.new))
-        → ¬ (MayFail (drop 1 (map string_bytes words.now)) outputs.old outputs.new)
-        → OverGiven (drop 1 (map string_bytes words.now)) (F.holds folder.old) (λ given.
-        (due : Due) → IsOutcome p (drop 1 (map string_bytes words.now)) given due
-        → (exit_status result ≡ code_of (stage_of (status_of due))) ⊎ (exit_status result ≡ 9)) }
-    ensures untouched { are_fileless (drop 1 (map string_bytes words.now)) ≡ true → folder.new ≡ folder.old }
-    // All that `run` says of the words behind the name, with a status whose code this is.
-    ensures finished { let p = predicates (P.number_of functions.now) (P.kinds_of functions.now) P.gives in
-        (s : Ending) × (exit_status result ≡ code_of (stage_of s))
-        × Finished p (drop 1 (map string_bytes words.now))
+    // All that `run` promises of the words behind the name, with a status whose code this is.
+    ensures headline { let p = predicates (P.number_of functions.now) (P.kinds_of functions.now) P.gives in
+        HeadlineByCode p (drop 1 (map string_bytes words.now)) folder.old folder.new
         (world_seen (F.holds folder.old) (F.faults folder.old) outputs.old)
-        (world_seen (F.holds folder.new) (F.faults folder.new) outputs.new) s }
+        (world_seen (F.holds folder.new) (F.faults folder.new) outputs.new) (exit_status result) }
 {
     let words = behind_name(words);
     code_for(run(host, functions, words, folder, outputs))

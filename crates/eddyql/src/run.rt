@@ -1,35 +1,26 @@
 //! The top call: from words, files and an output to a status.
 
-ghost use Rattle.std.specs.Prelude.{◌≡◌, ◌≢◌, ◌⊎◌, ◌∷◌, [], ℕ, true, false, List, Some, None, IsSome, All, map};
+ghost use Rattle.std.specs.Prelude.{◌≡◌, ◌≢◌, ◌∷◌, [], ℕ, true, List, Some, All, map};
 ghost use Rattle.std.specs.String.{string_bytes};
-ghost use Rattle.outside.specs.Faults.{NeverFalls, RoseOrFull};
-ghost use Rattle.outside.specs.Told.{Adds, AddsFront};
+ghost use Rattle.outside.specs.Faults.{NeverFalls};
 ghost use Rattle.command_line.specs.Within.{IsTask, HasScansAlone};
 ghost use Rattle.run_base.specs.Runnable.{IsRunnable};
 ghost use Rattle.remote_answers.specs.Answered.{AnsweredTo};
-ghost use Rattle.remote_lookup.specs.declared.remote.RemoteKey.{RemoteKey};
-ghost use Rattle.run_base.specs.Items.{Item};
 ghost use Rattle.run_base.specs.Seen.{folder_seen, world_seen};
-ghost use Rattle.run_plan.specs.Faults.{IsPlaced};
-ghost use Rattle.run_plan.specs.Naming.{IsNamed};
 ghost use Rattle.run_plan.specs.Open.{HasRemotes};
 ghost use Rattle.run_plan.specs.Prepared.{predicates};
-ghost use Rattle.run_plan.specs.Refusal.{UnlessReadOrMemory};
-ghost use Rattle.run_plan.specs.declared.status.FileOf.{FileOf};
-ghost use Rattle.run_notes.specs.Note.{NotesOf, line_of, names_of};
+ghost use Rattle.run_notes.specs.Note.{NotesOf, names_of};
 ghost use Rattle.run_answers.specs.Answering.{Answers};
 ghost use Rattle.run_answers.specs.Settings.{AreSettings};
 ghost use Rattle.run_answers.specs.Tally.{IsTally};
-ghost use Rattle.run_answers.specs.Text.{text_of};
 ghost use Rattle.run_answers.specs.Together.{IsBundleTally, IsSharedTally, blocks_in, in_bundles, bundles_of};
 ghost use Rattle.shared_eddy.specs.Sharing.{CanShare};
-ghost use Rattle.eddyql.specs.Asked.{IsDemoAsked, names_asked, counts_asked, is_tallied, loads_none, are_fileless};
+ghost use Rattle.eddyql.specs.Asked.{loads_none, are_fileless};
 ghost use Rattle.eddyql.specs.Asked as asking;
 ghost use Rattle.eddyql.specs.Ending as ending;
 ghost use Rattle.eddyql.specs.Ending.{Finished, Ran, RanAlone, RanOver};
-ghost use Rattle.eddyql.specs.Lines.{AllLines, SomeLines, IsCutOff, IsNotedBehind, MayFail};
-ghost use Rattle.eddyql.specs.Outcome.{Due, IsOutcome, OneOutcome, OverGiven, ReachedBy, ReachedKey, items_of, status_of, task_text, text_due};
-ghost use Rattle.eddyql.specs.Run.{MayEnd, IsBeforeOutput, IsUnrefused};
+ghost use Rattle.eddyql.specs.Headline.{Headline};
+ghost use Rattle.eddyql.specs.Outcome.{OneOutcome, items_of, task_text};
 
 use crate::asking::{Request, asked};
 use crate::host::Host;
@@ -362,104 +353,10 @@ pub fn run<F: Folder, O: Sink, N: Sink, P: Predicates + Sync, G: Gate, R: Thread
     folder: &mut F,
     outputs: &mut Outputs<O, N>,
 ) -> Status
-    ensures keeps { F.holds folder.new ≡ F.holds folder.old }
-    ensures folder_counts { NeverFalls (F.faults folder.old) (F.faults folder.new) }
-    ensures out_counts { NeverFalls outputs.old.out.faults outputs.new.out.faults }
-
-    // The headline: what is written where the run is done, by what was given of the words' files. This is what the
-    // folder holds, where it tells that.
-    ensures done { let p = predicates (P.number_of functions.now) (P.kinds_of functions.now) P.gives in
-        result ≡ Status.Done → OverGiven (map string_bytes words.now) (F.holds folder.old) (λ given.
-        (due : Due) × IsOutcome p (map string_bytes words.now) given due × (due.refusal ≡ None)
-        × Adds outputs.old.out.written outputs.new.out.written
-        (text_due p (map string_bytes words.now) due)) }
-
-    // No put of a run that is done failed.
-    ensures out_kept { result ≡ Status.Done → outputs.new.out.faults ≡ outputs.old.out.faults }
-
-    // And where it ends by what the outcome refuses.
-    ensures refused { let p = predicates (P.number_of functions.now) (P.kinds_of functions.now) P.gives in
-        OverGiven (map string_bytes words.now) (F.holds folder.old) (λ given.
-        (due : Due) → IsOutcome p (map string_bytes words.now) given due → due.refusal ≡ Some result
-        → Adds outputs.old.out.written outputs.new.out.written
-        (text_due p (map string_bytes words.now) due)) }
-
-    // Each status has its cause.
-    ensures causes { let p = predicates (P.number_of functions.now) (P.kinds_of functions.now) P.gives in
-        OverGiven (map string_bytes words.now) (F.holds folder.old) (λ given.
-        MayEnd (λ file. RoseOrFull (F.faults folder.old) (F.faults folder.new)
-        × ReachedBy p (map string_bytes words.now) given file)
-        (MayFail (map string_bytes words.now) outputs.old outputs.new)
-        (IsOutcome p (map string_bytes words.now) given) result) }
-    ensures usage_only { result ≡ Status.Usage → asking.asked (map string_bytes words.now) ≡ None }
-    ensures usage { asking.asked (map string_bytes words.now) ≡ None
-        → (result ≡ Status.Usage) ⊎ (result ≡ Status.Memory) }
-    // Words that aren't in form, or ask for the demo, load nothing.
-    ensures untouched { are_fileless (map string_bytes words.now) ≡ true → folder.new ≡ folder.old }
-    ensures kept { UnlessReadOrMemory result (F.faults folder.new ≡ F.faults folder.old) }
-    ensures placed { IsPlaced result }
-    ensures named { IsNamed (counts_asked (map string_bytes words.now)) result }
-    ensures read { (file : FileOf) → result ≡ Status.Read file
-        → RoseOrFull (F.faults folder.old) (F.faults folder.new) }
-    ensures write { result ≡ Status.Write
-        → MayFail (map string_bytes words.now) outputs.old outputs.new }
-    ensures not_found { (file : FileOf) → result ≡ Status.NotFound file → IsSome (F.holds folder.old) }
-
-    // The demo has a plan: it ends as done, by a fault of the output or the notes, or for want of memory.
-    ensures demo { IsDemoAsked (map string_bytes words.now) → IsUnrefused result }
-
-    // Without a fault the status is the outcome's, or want of memory.
-    ensures complete { let p = predicates (P.number_of functions.now) (P.kinds_of functions.now) P.gives in
-        ¬ (RoseOrFull (F.faults folder.old) (F.faults folder.new))
-        → ¬ (MayFail (map string_bytes words.now) outputs.old outputs.new)
-        → OverGiven (map string_bytes words.now) (F.holds folder.old) (λ given.
-        (due : Due) → IsOutcome p (map string_bytes words.now) given due
-        → (result ≡ status_of due) ⊎ (result ≡ Status.Memory)) }
-
-    // Where a key's file isn't read, exactly the answers before its statement are written.
-    ensures unread { let p = predicates (P.number_of functions.now) (P.kinds_of functions.now) P.gives in
-        (at : RemoteKey) → result ≡ Status.Read (FileOf.Key at)
-        → OverGiven (map string_bytes words.now) (F.holds folder.old) (λ given. (items : List Item)
-        × ReachedKey p (map string_bytes words.now) given items at
-        × Adds outputs.old.out.written outputs.new.out.written (text_of P.gives items)) }
-
-    // Nothing but a front of the text that is due is written, and a refusal before the output leaves it as it was.
-    ensures nothing { IsBeforeOutput result → outputs.new.out ≡ outputs.old.out }
-    ensures front { let p = predicates (P.number_of functions.now) (P.kinds_of functions.now) P.gives in
-        OverGiven (map string_bytes words.now) (F.holds folder.old) (λ given.
-        (due : Due) → IsOutcome p (map string_bytes words.now) given due
-        → AddsFront outputs.old.out.written outputs.new.out.written
-        (text_due p (map string_bytes words.now) due)) }
-
-    // Where lines of counts are wanted, one stands on the notes for each statement of a run that is done, or one for
-    // all where they run together, right for what it is of, whose text the output took, and nothing else; else they
-    // are as they were.
-    ensures tallied { let p = predicates (P.number_of functions.now) (P.kinds_of functions.now) P.gives in
-        result ≡ Status.Done → OverGiven (map string_bytes words.now) (F.holds folder.old) (λ given. (lines : List ℕ)
-        × AllLines p (map string_bytes words.now) given outputs.old.out outputs.new.out lines
-        × Adds outputs.old.notes.written outputs.new.notes.written lines) }
-    ensures silent { result ≡ Status.Done → is_tallied (map string_bytes words.now) ≡ false
-        → outputs.new.notes ≡ outputs.old.notes }
-    ensures silent_count { result ≡ Status.Done
-        → outputs.new.notes.faults ≡ outputs.old.notes.faults }
-
-    // Behind the lines of just the finished statements, which run together or one after another, one line says why a
-    // run was refused; but nothing is put behind a fault of the notes at the line of what was last written.
-    ensures noted { let p = predicates (P.number_of functions.now) (P.kinds_of functions.now) P.gives in
-        result ≢ Status.Done → OverGiven (map string_bytes words.now) (F.holds folder.old) (λ given.
-        ((lines : List ℕ)
-        × SomeLines p (map string_bytes words.now) given outputs.old.out outputs.new.out lines
-        × IsNotedBehind outputs.old.notes outputs.new.notes lines
-        (line_of (names_asked (map string_bytes words.now)) result))
-        ⊎ ((result ≡ Status.Write) × IsCutOff p (map string_bytes words.now) given outputs.old outputs.new)) }
-    ensures cut { let p = predicates (P.number_of functions.now) (P.kinds_of functions.now) P.gives in
-        result ≡ Status.Write → ¬ (RoseOrFull outputs.old.out.faults outputs.new.out.faults)
-        → OverGiven (map string_bytes words.now) (F.holds folder.old) (λ given.
-        IsCutOff p (map string_bytes words.now) given outputs.old outputs.new) }
-
-    // All of this in one, for those who hand the words on.
-    ensures finished { let p = predicates (P.number_of functions.now) (P.kinds_of functions.now) P.gives in
-        Finished p (map string_bytes words.now) (world_seen (F.holds folder.old) (F.faults folder.old) outputs.old)
+    // All that a run promises, in one: specs/Headline has it, a promise a field.
+    ensures headline { let p = predicates (P.number_of functions.now) (P.kinds_of functions.now) P.gives in
+        Headline p (map string_bytes words.now) folder.old folder.new
+        (world_seen (F.holds folder.old) (F.faults folder.old) outputs.old)
         (world_seen (F.holds folder.new) (F.faults folder.new) outputs.new) result }
 {
     run_words(host, functions, words, folder, outputs)

@@ -1,19 +1,12 @@
 //! The program as it is shipped: with `divides`, `same_sign` and `near10` as its predicates.
 
-ghost use Rattle.std.specs.Prelude.{◌≡◌, ◌⊎◌, ◌++◌, ◌∷◌, [], ◌<◌, true, false, length, List, Some, None, IfOk, OnOk, OnErr, map, drop};
+ghost use Rattle.std.specs.Prelude.{◌≡◌, ◌++◌, ◌∷◌, [], ◌<◌, false, length, IfOk, OnOk, OnErr, map, drop};
 ghost use Rattle.std.specs.Process.{exit_status};
 ghost use Rattle.std.specs.String.{string_bytes};
-ghost use Rattle.outside.specs.Faults.{RoseOrFull};
-ghost use Rattle.outside.specs.Told.{Adds};
 ghost use Rattle.fn_registry.specs.Registry.{is_taken};
 ghost use Rattle.fn_registry.specs.Signatures.{signatures};
 ghost use Rattle.run_base.specs.Seen.{world_seen};
-ghost use Rattle.run_plan.specs.Stage.{stage_of, code_of};
-ghost use Rattle.run_plan.specs.declared.status.Status.{Status as Ending};
-ghost use Rattle.eddyql.specs.Asked.{asked, are_fileless};
-ghost use Rattle.eddyql.specs.Ending.{Finished};
-ghost use Rattle.eddyql.specs.Lines.{MayFail};
-ghost use Rattle.eddyql.specs.Outcome.{Due, IsOutcome, OverGiven, status_of, text_due};
+ghost use Rattle.eddyql.specs.Headline.{HeadlineByCode};
 ghost use Rattle.eddyql.specs.Shipped.{shipped_predicates};
 
 use crate::host::Host;
@@ -59,23 +52,9 @@ fn run_shipped<F: Folder, O: Sink, N: Sink, G: Gate, R: Threads + Wait + Sync>(
     folder: &mut F,
     outputs: &mut Outputs<O, N>,
 ) -> Result<ExitCode, Memory>
-    ensures usage { asked (drop 1 (map string_bytes words.now)) ≡ None
-        → IfOk result (λ code. (exit_status code ≡ 2) ⊎ (exit_status code ≡ 9)) }
-    ensures done { IfOk result (λ code. exit_status code ≡ 0
-        → OverGiven (drop 1 (map string_bytes words.now)) (F.holds folder.old) (λ given.
-        (due : Due) × IsOutcome shipped_predicates (drop 1 (map string_bytes words.now)) given due
-        × (due.refusal ≡ None) × Adds outputs.old.out.written outputs.new.out.written
-        (text_due shipped_predicates (drop 1 (map string_bytes words.now)) due))) }
-    ensures complete { IfOk result (λ code. ¬ (RoseOrFull (F.faults folder.old) (F.faults folder.new))
-        → ¬ (MayFail (drop 1 (map string_bytes words.now)) outputs.old outputs.new)
-        → OverGiven (drop 1 (map string_bytes words.now)) (F.holds folder.old) (λ given.
-        (due : Due) → IsOutcome shipped_predicates (drop 1 (map string_bytes words.now)) given due
-        → (exit_status code ≡ code_of (stage_of (status_of due))) ⊎ (exit_status code ≡ 9))) }
-    ensures finished { IfOk result (λ code. (s : Ending) × (exit_status code ≡ code_of (stage_of s))
-        × Finished shipped_predicates (drop 1 (map string_bytes words.now))
-        (world_seen (F.holds folder.old) (F.faults folder.old) outputs.old)
-        (world_seen (F.holds folder.new) (F.faults folder.new) outputs.new) s) }
-    ensures fileless { are_fileless (drop 1 (map string_bytes words.now)) ≡ true → folder.new ≡ folder.old }
+    ensures headline { IfOk result (λ code. HeadlineByCode shipped_predicates (drop 1 (map string_bytes words.now))
+        folder.old folder.new (world_seen (F.holds folder.old) (F.faults folder.old) outputs.old)
+        (world_seen (F.holds folder.new) (F.faults folder.new) outputs.new) (exit_status code)) }
     ensures untouched { OnErr result ((folder.new ≡ folder.old) × (outputs.new ≡ outputs.old)) }
 {
     let mut functions: Functions<SHIPPED> = Functions::new(host.alloc);
@@ -101,28 +80,11 @@ pub fn program_as_shipped<F: Folder, O: Sink, N: Sink, G: Gate, R: Threads + Wai
     folder: &mut F,
     outputs: &mut Outputs<O, N>,
 ) -> ExitCode
-    ensures usage { asked (drop 1 (map string_bytes words.now)) ≡ None
-        → (exit_status result ≡ 2) ⊎ (exit_status result ≡ 9) }
-    ensures done { exit_status result ≡ 0
-        → OverGiven (drop 1 (map string_bytes words.now)) (F.holds folder.old) (λ given.
-        (due : Due) × IsOutcome shipped_predicates (drop 1 (map string_bytes words.now)) given due
-        × (due.refusal ≡ None) × Adds outputs.old.out.written outputs.new.out.written
-        (text_due shipped_predicates (drop 1 (map string_bytes words.now)) due)) }
-    ensures refused { OverGiven (drop 1 (map string_bytes words.now)) (F.holds folder.old) (λ given.
-        (due : Due) → IsOutcome shipped_predicates (drop 1 (map string_bytes words.now)) given due
-        → (s : Ending) × (exit_status result ≡ code_of (stage_of s)) × (due.refusal ≡ Some s
-        → Adds outputs.old.out.written outputs.new.out.written
-        (text_due shipped_predicates (drop 1 (map string_bytes words.now)) due))) }
-    ensures complete { ¬ (RoseOrFull (F.faults folder.old) (F.faults folder.new))
-        → ¬ (MayFail (drop 1 (map string_bytes words.now)) outputs.old outputs.new)
-        → OverGiven (drop 1 (map string_bytes words.now)) (F.holds folder.old) (λ given.
-        (due : Due) → IsOutcome shipped_predicates (drop 1 (map string_bytes words.now)) given due
-        → (exit_status result ≡ code_of (stage_of (status_of due))) ⊎ (exit_status result ≡ 9)) }
-    ensures untouched { are_fileless (drop 1 (map string_bytes words.now)) ≡ true → folder.new ≡ folder.old }
-    ensures finished { (s : Ending) × (exit_status result ≡ code_of (stage_of s))
-        × Finished shipped_predicates (drop 1 (map string_bytes words.now))
+    // All that `run` promises of the words behind the name, over the shipped predicates, with a status whose code this
+    // is.
+    ensures headline { HeadlineByCode shipped_predicates (drop 1 (map string_bytes words.now)) folder.old folder.new
         (world_seen (F.holds folder.old) (F.faults folder.old) outputs.old)
-        (world_seen (F.holds folder.new) (F.faults folder.new) outputs.new) s }
+        (world_seen (F.holds folder.new) (F.faults folder.new) outputs.new) (exit_status result) }
 {
     match run_shipped(host, words, folder, outputs) {
         Ok(code) => code,
