@@ -1,7 +1,7 @@
 -- Lists of many literals. Of which years do the rules of four sorts of savings begin in the listed ones?
 SELECT r.rule, r.from_year, r.save
 FROM rule r
-WHERE r.from_year IN (1910, 1925, 1929.0, 1930, NULL, 1935, 1958, 1961, 1910, 1000)
+WHERE r.from_year IN (1910, 1925, 1929, 1930, NULL, 1935, 1958, 1961, 1910, 1000)
 ORDER BY r.from_year, r.rule, r.to_year, r.month, r.day;
 -- A list of texts, which a look-up of zones may answer.
 SELECT c.name, z.tz
