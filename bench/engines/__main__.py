@@ -148,6 +148,9 @@ def measure_all(given):
     for more in given.also:
         name, _, words = more.partition("=")
         engines += [peers.Eddyql(given.program, f"eddyql {name}", shlex.split(words))] if engines else []
+    for other in given.beside:
+        name, _, program = other.partition("=")
+        engines += [peers.Eddyql(program, f"eddyql {name}")] if os.access(program, os.X_OK) else []
     engines += [it for it in peers.peers() if it.find() and not any(it.name.lower().startswith(no.lower()) for no in given.without)]
     say("bench/engines: " + ", ".join(it.name for it in engines))
     done = []
@@ -178,6 +181,8 @@ def words():
     parser.add_argument("--program", default=f"{TOP}/crates/eddyql/out/eddyql", help="the built program (default: where tools/prove leaves it)")
     parser.add_argument("--also", action="append", default=[], metavar="NAME=WORDS",
                         help="measures it with more words, too: 'lottery=--policy lottery'")
+    parser.add_argument("--beside", action="append", default=[], metavar="NAME=PROGRAM",
+                        help="measures another built program, too, such as an earlier one: 'before=/path/to/eddyql'")
     parser.add_argument("--scale", type=float, default=1.0, help="a factor of all numbers of rows")
     parser.add_argument("--only", nargs="+", default=[], metavar="WORKLOAD", help="the workloads whose names begin so")
     parser.add_argument("--without", nargs="+", default=[], metavar="ENGINE", help="peers to pass over")

@@ -11,4 +11,4 @@ mod nested;
 
 pub use combo::{Built, Combo};
 pub use laws::{answer_laws, bag_law, credit_law};
-pub use nested::plain;
+pub use nested::{plain, uses_of};

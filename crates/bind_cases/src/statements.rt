@@ -21,8 +21,11 @@ mod shapes;
 /// Cases that have the accesses and the front of their texts in common.
 #[derive(Clone, Copy)]
 pub struct Group {
+    /// The accesses of the tables.
     pub accesses: &'static str,
+    /// What each text begins with.
     pub front: &'static str,
+    /// The cases, a line each.
     pub cases: &'static str,
 }
 

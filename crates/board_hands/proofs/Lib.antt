@@ -4,3 +4,4 @@ pub mod ClosingLists
 pub mod ClosingLog
 pub mod PlacedLemmas
 pub mod EntryCounts
+pub mod Crosses

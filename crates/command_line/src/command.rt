@@ -6,7 +6,9 @@ use sqlite_items::Items;
 /// A table of the command line, `NAME=FILE`: its name, and the name of its file.
 #[derive(Debug, Drop)]
 pub struct TableWord {
+    /// The table's name.
     pub name: SqText,
+    /// The name of its file.
     pub file: SqText,
 }
 
@@ -15,8 +17,11 @@ pub struct TableWord {
 /// accesses of `--index` keep the scan, and those of `--lookup` don't.
 #[derive(Debug, Drop)]
 pub struct AccessWord {
+    /// The table's number among those of the command line, from 0.
     pub table: u32,
+    /// The column's name, as it was given.
     pub column: SqText,
+    /// Whether the table is scanned, too.
     pub scan: bool,
 }
 
@@ -24,8 +29,11 @@ pub struct AccessWord {
 /// by, as it was given, and what the names of its files begin with.
 #[derive(Debug, Drop)]
 pub struct RemoteWord {
+    /// The remote's name.
     pub name: SqText,
+    /// The name of its key column, as it was given.
     pub column: SqText,
+    /// What the names of its files begin with.
     pub prefix: SqText,
 }
 
@@ -46,9 +54,13 @@ pub enum PolicyName {
 /// accesses, those of `--index` first, and the remotes in the order of their items.
 #[derive(Debug, Drop)]
 pub struct Query {
+    /// The name of the script's file.
     pub script: SqText,
+    /// The tables, in the order of their words.
     pub tables: Items<TableWord>,
+    /// The accesses, those of `--index` first.
     pub accesses: Items<AccessWord>,
+    /// The remotes, in the order of their items.
     pub remotes: Items<RemoteWord>,
 }
 
@@ -65,12 +77,20 @@ pub enum Task {
 /// they do, and what is to be run.
 #[derive(Debug, Drop)]
 pub struct Command {
+    /// The number of workers, 1 to 16.
     pub workers: u32,
+    /// The name of the policy.
     pub policy: PolicyName,
+    /// The seed of the lottery.
     pub seed: u64,
+    /// The text of the route script.
     pub route: SqText,
+    /// The room of each cache of predicates' answers, 0 to 4,096; 0 is none.
     pub cache: u32,
+    /// Whether a line of counts is wanted for each query.
     pub tally: bool,
+    /// Whether all statements run together.
     pub shared: bool,
+    /// What is to be run.
     pub task: Task,
 }

@@ -1,14 +1,11 @@
 //! Random blocks, by random events and under each policy.
 
-ghost use Rattle.sq_expr.specs.Fits.{IsFit};
-ghost use Rattle.sq_expr.specs.Reach.{IsReachable};
-
 use crate::drawn::{banded, statement, tables, ways};
 use crate::events::keys_by_events;
 use crate::policies::{POLICIES, keys_by_policy};
 use case_kit::{block_of_case, catalogue_of_lines};
-use sq_expr::Block;
-use sq_value::{NoPredicates, Predicates, Tables};
+use eddy_query::Fitting;
+use sq_value::{NoPredicates, Predicates};
 use std::alloc::Global;
 use std::test::Fail;
 
@@ -32,19 +29,14 @@ struct Tried {
 // How many keys a block's run asked for, by random events or under the policy of a word, if it found the bag.
 fn keys_of<F: Predicates>(
     alloc: Global,
-    block: &Block,
-    tables: &Tables,
-    functions: &F,
+    query: &Fitting<'_, F>,
     state: &mut u64,
     word: &str,
-) -> Result<Option<u64>, Fail>
-    requires fits { IsFit (F.kinds_of functions.now) tables.now block.now }
-    requires reachable { IsReachable block.now }
-{
+) -> Result<Option<u64>, Fail> {
     if word == EVENTS {
-        return keys_by_events(alloc, block, tables, functions, state);
+        return keys_by_events(alloc, query, state);
     }
-    keys_by_policy(alloc, block, tables, functions, word)
+    keys_by_policy(alloc, query, word)
 }
 
 // Counts a random block whose run asked for so many keys.
@@ -78,8 +70,8 @@ fn try_block(
     let catalogue = catalogue_of_lines(alloc, lines.as_str())?;
     let keys = match block_of_case(alloc, &catalogue, ways, text, &NoPredicates)? {
         Some(block) => {
-            let tables = catalogue.tables();
-            keys_of(alloc, &block, tables, &NoPredicates, state, word)?
+            let query = Fitting::new(&block, catalogue.tables(), &NoPredicates);
+            keys_of(alloc, &query, state, word)?
         }
         None if block_of_case(alloc, &catalogue, SCANS, text, &NoPredicates)?.is_some() =>
             return Ok(()),

@@ -1,16 +1,14 @@
 //! Runs with a cache of predicates' answers: how often a kept one was given, and how often the predicates were called.
 
 ghost use Rattle.std.specs.Prelude.{◌≤◌};
-ghost use Rattle.sq_expr.specs.Fits.{IsFit};
-ghost use Rattle.sq_expr.specs.Reach.{IsReachable};
 
 use crate::compared::is_bag;
 use crate::policies::policy_of;
 use crate::sample::{Case, cut};
 use case_kit::{Counted, block_of_case, catalogue_of_lines};
 use eddy_core::{CachedAnswer, run_one_cached};
-use sq_expr::Block;
-use sq_value::{Memory, Predicates, Tables};
+use eddy_query::Fitting;
+use sq_value::{Memory, Predicates};
 use std::alloc::Global;
 use std::test::Fail;
 
@@ -50,36 +48,28 @@ const OTHER: &str = "another bag";
 // A run with a cache of this room.
 fn run_of<'t, F: Predicates>(
     alloc: Global,
-    block: &'t Block,
-    tables: &'t Tables,
-    functions: &'t F,
+    query: &Fitting<'t, F>,
     word: &str,
     room: u32,
 ) -> Result<CachedAnswer<'t>, Memory>
-    requires fits { IsFit (F.kinds_of functions.now) tables.now block.now }
-    requires reachable { IsReachable block.now }
     requires room { room ≤ 4096 }
 {
     let mut policy = policy_of(word);
-    run_one_cached(alloc, block, tables, &mut policy, functions, room)
+    run_one_cached(alloc, query, &mut policy, room)
 }
 
 // What is said of a run that called the predicates so often.
 fn said_of<F: Predicates>(
     alloc: Global,
-    block: &Block,
-    tables: &Tables,
-    functions: &F,
+    query: &Fitting<'_, F>,
     cached: &CachedAnswer<'_>,
     called: u64,
-) -> Result<String, Fail>
-    requires fits { IsFit (F.kinds_of functions.now) tables.now block.now }
-{
+) -> Result<String, Fail> {
     let (combos, built) = (
         cached.answered.combos.as_slice(),
         cached.answered.built.as_slice(),
     );
-    if !is_bag(alloc, block, tables, functions, combos, built)? {
+    if !is_bag(alloc, query, combos, built)? {
         return Ok(String::from_str(alloc, OTHER)?);
     }
     let hits = cached.hits;
@@ -95,10 +85,10 @@ fn case_said(alloc: Global, case: &Case<'_>) -> Result<String, Fail> {
     let room = room.parse::<u32>().unwrap_or(0).min(4096);
     match block_of_case(alloc, &catalogue, case.ways, case.text, &functions)? {
         Some(block) => {
-            let tables = catalogue.tables();
-            let cached = run_of(alloc, &block, tables, &functions, word, room)?;
+            let query = Fitting::new(&block, catalogue.tables(), &functions);
+            let cached = run_of(alloc, &query, word, room)?;
             let called = functions.calls();
-            said_of(alloc, &block, tables, &functions, &cached, called)
+            said_of(alloc, &query, &cached, called)
         }
         None => Ok(String::from_str(alloc, OTHER)?),
     }

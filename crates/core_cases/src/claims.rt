@@ -3,6 +3,7 @@
 use crate::sample::{Case, cut};
 use case_kit::{block_of_case, catalogue_of_lines};
 use claim_order::{AnyClaims, Claims, ClaimsInOrder, ClaimsInTurn, claims_for, survey};
+use eddy_query::Fitting;
 use sq_value::NoPredicates;
 use std::alloc::Global;
 use std::test::Fail;
@@ -36,7 +37,8 @@ fn order_said(alloc: Global, case: &Case<'_>) -> Result<String, Fail> {
     let catalogue = catalogue_of_lines(alloc, TABLES)?;
     let mut told = String::new(alloc);
     if let Some(block) = block_of_case(alloc, &catalogue, case.ways, case.text, &NoPredicates)? {
-        let order = survey(alloc, &block, catalogue.tables(), &NoPredicates)?;
+        let query = Fitting::new(&block, catalogue.tables(), &NoPredicates);
+        let order = survey(alloc, &query)?;
         for alias in order.as_slice() {
             if !told.is_empty() {
                 told.push(' ')?;
@@ -85,7 +87,8 @@ fn is_surveyed(alloc: Global, rows: u32, text: &str, asked: bool) -> Result<bool
     let Some(block) = block_of_case(alloc, &catalogue, "s s", text, &NoPredicates)? else {
         return Ok(false);
     };
-    let claims = claims_for(alloc, &block, catalogue.tables(), &NoPredicates, asked)?;
+    let query = Fitting::new(&block, catalogue.tables(), &NoPredicates);
+    let claims = claims_for(alloc, &query, asked)?;
     Ok(matches!(claims, AnyClaims::InOrder(_)))
 }
 

@@ -1,11 +1,9 @@
 //! What a run has found, beside what nested loops and a replay find.
 
-ghost use Rattle.sq_expr.specs.Fits.{IsFit};
-
 use bag_meaning::{Built, Combo, plain};
 use eddy_core::replay;
-use sq_expr::Block;
-use sq_value::{Predicates, Tables};
+use eddy_query::Fitting;
+use sq_value::Predicates;
 use std::alloc::Global;
 use std::test::Fail;
 
@@ -35,15 +33,11 @@ fn are_same(combos: &[Combo], wanted: &[Combo], with_stamps: bool) -> bool {
 /// Whether what was found is the bag, and what the build log replays to, stamps included.
 pub fn is_bag<F: Predicates>(
     alloc: Global,
-    block: &Block,
-    tables: &Tables,
-    functions: &F,
+    query: &Fitting<'_, F>,
     found: &[Combo],
     built: &[Built],
-) -> Result<bool, Fail>
-    requires fits { IsFit (F.kinds_of functions.now) tables.now block.now }
-{
-    let bag = plain(alloc, block, tables, functions)?;
-    let replayed = replay(alloc, block, tables, functions, built)?;
+) -> Result<bool, Fail> {
+    let bag = plain(alloc, query.block(), query.tables(), query.functions())?;
+    let replayed = replay(alloc, query, built)?;
     Ok(are_same(found, bag.as_slice(), false) && are_same(found, replayed.as_slice(), true))
 }

@@ -1,15 +1,13 @@
 //! Random events, and what comes of them.
 
 ghost use Rattle.std.specs.Prelude.{◌<◌};
-ghost use Rattle.sq_expr.specs.Fits.{IsFit};
-ghost use Rattle.sq_expr.specs.Reach.{IsReachable};
 
 use crate::compared::is_bag;
 use crate::drawn::next;
 use eddy_core::{Core, StepRefused};
+use eddy_query::Fitting;
 use eddy_runs::Event;
-use sq_expr::Block;
-use sq_value::{Predicates, Tables};
+use sq_value::Predicates;
 use std::alloc::Global;
 use std::test::Fail;
 use tuple_span::{Route, Via};
@@ -95,20 +93,15 @@ fn drive<F: Predicates>(alloc: Global, core: &mut Core<'_, F>, state: &mut u64) 
 /// How many keys random events on a block have asked for at its end, if they come to an end with its bag.
 pub fn keys_by_events<F: Predicates>(
     alloc: Global,
-    block: &Block,
-    tables: &Tables,
-    functions: &F,
+    query: &Fitting<'_, F>,
     state: &mut u64,
-) -> Result<Option<u64>, Fail>
-    requires fits { IsFit (F.kinds_of functions.now) tables.now block.now }
-    requires reachable { IsReachable block.now }
-{
-    let mut core = Core::start(alloc, block, tables, functions)?;
+) -> Result<Option<u64>, Fail> {
+    let mut core = Core::start(alloc, query)?;
     if !drive(alloc, &mut core, state) {
         return Ok(None);
     }
     let (found, built) = (core.results(), core.built());
-    if !is_bag(alloc, block, tables, functions, found, built)? {
+    if !is_bag(alloc, query, found, built)? {
         return Ok(None);
     }
     Ok(Some(core.asked().len() as u64))

@@ -1,14 +1,11 @@
 //! Listed events of a core, answer by answer, with the state that they leave.
 
-ghost use Rattle.sq_expr.specs.Fits.{IsFit};
-ghost use Rattle.sq_expr.specs.Reach.{IsReachable};
-
 use crate::sample::{cut, digits_of};
 use case_kit::{block_of_case, catalogue_of_lines};
 use eddy_core::Core;
+use eddy_query::Fitting;
 use eddy_runs::Event;
-use sq_expr::Block;
-use sq_value::{NoPredicates, Predicates, Tables};
+use sq_value::{NoPredicates, Predicates};
 use std::alloc::Global;
 use std::test::Fail;
 use tuple_span::{Route, Via};
@@ -152,15 +149,10 @@ fn push_answer<F: Predicates>(
 // What is said of events on a block.
 fn said<F: Predicates>(
     alloc: Global,
-    block: &Block,
-    tables: &Tables,
-    functions: &F,
+    query: &Fitting<'_, F>,
     events: &str,
-) -> Result<String, Fail>
-    requires fits { IsFit (F.kinds_of functions.now) tables.now block.now }
-    requires reachable { IsReachable block.now }
-{
-    let mut core = Core::start(alloc, block, tables, functions)?;
+) -> Result<String, Fail> {
+    let mut core = Core::start(alloc, query)?;
     let mut told = String::new(alloc);
     for word in events.split(' ') {
         push_answer(alloc, &mut told, &mut core, event_of(word))?;
@@ -174,7 +166,10 @@ fn wrong_case(alloc: Global, line: &str) -> Result<String, Fail> {
     let case = cut(line);
     let catalogue = catalogue_of_lines(alloc, TABLES)?;
     let told = match block_of_case(alloc, &catalogue, case.ways, case.text, &NoPredicates)? {
-        Some(block) => said(alloc, &block, catalogue.tables(), &NoPredicates, case.how)?,
+        Some(block) => {
+            let query = Fitting::new(&block, catalogue.tables(), &NoPredicates);
+            said(alloc, &query, case.how)?
+        }
         None => String::from_str(alloc, "no block")?,
     };
     if told.as_str() == case.want {

@@ -1,15 +1,12 @@
 //! Runs with a policy: worked cases, and random blocks.
 
-ghost use Rattle.sq_expr.specs.Fits.{IsFit};
-ghost use Rattle.sq_expr.specs.Reach.{IsReachable};
-
 use crate::compared::is_bag;
 use crate::sample::{Case, cut, digits_of};
 use case_kit::{block_of_case, catalogue_of_lines, push_listed};
 use eddy_core::run_one;
+use eddy_query::Fitting;
 use route_policy::{AnyPolicy, Greedy, Lottery, Policy, Pressure, RouteScript};
-use sq_expr::Block;
-use sq_value::{NoPredicates, Predicates, Tables};
+use sq_value::{NoPredicates, Predicates};
 use std::alloc::Global;
 use std::test::Fail;
 
@@ -95,18 +92,13 @@ pub fn policy_of(word: &str) -> AnyPolicy {
 // What is counted of a run, if it found the bag.
 fn counts_of<F: Predicates>(
     alloc: Global,
-    block: &Block,
-    tables: &Tables,
-    functions: &F,
+    query: &Fitting<'_, F>,
     word: &str,
-) -> Result<Option<Counts>, Fail>
-    requires fits { IsFit (F.kinds_of functions.now) tables.now block.now }
-    requires reachable { IsReachable block.now }
-{
+) -> Result<Option<Counts>, Fail> {
     let mut policy = policy_of(word);
-    let a = run_one(alloc, block, tables, &mut policy, functions)?;
+    let a = run_one(alloc, query, &mut policy)?;
     let (combos, built) = (a.combos.as_slice(), a.built.as_slice());
-    if !is_bag(alloc, block, tables, functions, combos, built)? {
+    if !is_bag(alloc, query, combos, built)? {
         return Ok(None);
     }
     Ok(Some(Counts {
@@ -121,15 +113,10 @@ fn counts_of<F: Predicates>(
 /// How many keys a run looks up, if it finds the bag.
 pub fn keys_by_policy<F: Predicates>(
     alloc: Global,
-    block: &Block,
-    tables: &Tables,
-    functions: &F,
+    query: &Fitting<'_, F>,
     word: &str,
-) -> Result<Option<u64>, Fail>
-    requires fits { IsFit (F.kinds_of functions.now) tables.now block.now }
-    requires reachable { IsReachable block.now }
-{
-    match counts_of(alloc, block, tables, functions, word)? {
+) -> Result<Option<u64>, Fail> {
+    match counts_of(alloc, query, word)? {
         Some(counts) => Ok(Some(counts.keys as u64)),
         None => Ok(None),
     }
@@ -139,7 +126,10 @@ pub fn keys_by_policy<F: Predicates>(
 fn counts_in(alloc: Global, case: &Case<'_>, word: &str) -> Result<Option<Counts>, Fail> {
     let catalogue = catalogue_of_lines(alloc, TABLES)?;
     match block_of_case(alloc, &catalogue, case.ways, case.text, &NoPredicates)? {
-        Some(block) => counts_of(alloc, &block, catalogue.tables(), &NoPredicates, word),
+        Some(block) => {
+            let query = Fitting::new(&block, catalogue.tables(), &NoPredicates);
+            counts_of(alloc, &query, word)
+        }
         None => Ok(None),
     }
 }
@@ -180,16 +170,11 @@ fn bound_said(alloc: Global, case: &Case<'_>, word: &str) -> Result<String, Fail
 // What a run by a script answers, as text.
 fn answer_of<F: Predicates>(
     alloc: Global,
-    block: &Block,
-    tables: &Tables,
-    functions: &F,
+    query: &Fitting<'_, F>,
     script: &str,
-) -> Result<String, Fail>
-    requires fits { IsFit (F.kinds_of functions.now) tables.now block.now }
-    requires reachable { IsReachable block.now }
-{
+) -> Result<String, Fail> {
     let mut policy = policy_of(script);
-    let a = run_one(alloc, block, tables, &mut policy, functions)?;
+    let a = run_one(alloc, query, &mut policy)?;
     let mut told = String::new(alloc);
     for combo in a.combos.as_slice() {
         let (first, second, stamp) = (combo.rows[0], combo.rows[1], combo.stamp);
@@ -214,7 +199,10 @@ fn answer_of<F: Predicates>(
 fn run_said(alloc: Global, case: &Case<'_>) -> Result<String, Fail> {
     let catalogue = catalogue_of_lines(alloc, TABLES)?;
     match block_of_case(alloc, &catalogue, case.ways, case.text, &NoPredicates)? {
-        Some(block) => answer_of(alloc, &block, catalogue.tables(), &NoPredicates, case.how),
+        Some(block) => {
+            let query = Fitting::new(&block, catalogue.tables(), &NoPredicates);
+            answer_of(alloc, &query, case.how)
+        }
         None => Ok(String::from_str(alloc, "no block")?),
     }
 }

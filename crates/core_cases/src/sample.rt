@@ -5,9 +5,13 @@ use sq_value::Key;
 /// A worked case, of a line with three bars: what is wanted, the ways of the tables, the statement, and how it is run.
 #[derive(Drop)]
 pub struct Case<'l> {
+    /// What is wanted.
     pub want: &'l str,
+    /// How the tables are reached.
     pub ways: &'l str,
+    /// The statement.
     pub text: &'l str,
+    /// How it is run.
     pub how: &'l str,
 }
 

@@ -1,14 +1,11 @@
 //! A replay, and what a recorder keeps of a run.
 
-ghost use Rattle.sq_expr.specs.Fits.{IsFit};
-ghost use Rattle.sq_expr.specs.Reach.{IsReachable};
-
 use bag_meaning::Built;
 use case_kit::{block_of_case, catalogue_of_lines};
 use eddy_core::{replay, run_one};
+use eddy_query::Fitting;
 use route_policy::{PolicyCall, Recorder, RouteScript};
-use sq_expr::Block;
-use sq_value::{NoPredicates, Predicates, Tables};
+use sq_value::{NoPredicates, Predicates};
 use std::alloc::Global;
 use std::test::Fail;
 
@@ -24,17 +21,10 @@ const BELOW: &str = "SELECT a.x AS p, b.x AS q FROM n a, n b WHERE a.x < b.x";
 const ORDERS: &str = "SELECT name, amt FROM cust c, ord o WHERE c.id = o.cid";
 
 // The combinations of a self-join that a list of built rows replays to.
-fn replays<F: Predicates>(
-    alloc: Global,
-    block: &Block,
-    tables: &Tables,
-    functions: &F,
-) -> Result<String, Fail>
-    requires fits { IsFit (F.kinds_of functions.now) tables.now block.now }
-{
+fn replays<F: Predicates>(alloc: Global, query: &Fitting<'_, F>) -> Result<String, Fail> {
     let built = [Built { alias: 0, row: 0 }, Built { alias: 1, row: 1 }];
     let mut told = String::new(alloc);
-    let combos = replay(alloc, block, tables, functions, built.as_slice())?;
+    let combos = replay(alloc, query, built.as_slice())?;
     for combo in combos.as_slice() {
         let (first, second, stamp) = (combo.rows[0], combo.rows[1], combo.stamp);
         told.push_str(format!(in alloc; "{first} {second} at {stamp}")?.as_str())?;
@@ -54,21 +44,13 @@ fn in_turn(calls: &[PolicyCall]) -> usize {
 }
 
 // How many calls of a script a recorder of this room keeps over a run.
-fn kept<F: Predicates>(
-    alloc: Global,
-    block: &Block,
-    tables: &Tables,
-    functions: &F,
-    room: u32,
-) -> Result<usize, Fail>
-    requires fits { IsFit (F.kinds_of functions.now) tables.now block.now }
-    requires reachable { IsReachable block.now }
-{
+fn kept<F: Predicates>(alloc: Global, query: &Fitting<'_, F>, room: u32) -> Result<usize, Fail> {
     let Ok(script) = RouteScript::read("v0") else {
         return Ok(0);
     };
     let mut policy = Recorder::new(alloc, script, room)?;
-    let _answered = run_one(alloc, block, tables, &mut policy, functions)?;
+    // (what it answers is not asked for here)
+    let _answered = run_one(alloc, query, &mut policy)?;
     Ok(in_turn(policy.calls()))
 }
 
@@ -77,7 +59,8 @@ fn a_list_replays_as_worked_out(rt: HostRuntime) -> Result<(), Fail> {
     let alloc = rt.alloc();
     let catalogue = catalogue_of_lines(alloc, TABLES)?;
     if let Some(block) = block_of_case(alloc, &catalogue, "s s s", BELOW, &NoPredicates)? {
-        let told = replays(alloc, &block, catalogue.tables(), &NoPredicates)?;
+        let query = Fitting::new(&block, catalogue.tables(), &NoPredicates);
+        let told = replays(alloc, &query)?;
         assert_eq!(rt; told.as_str(), "0 1 at 1");
         return Ok(());
     }
@@ -90,7 +73,8 @@ fn a_recorder_keeps_each_choice_and_return(rt: HostRuntime) -> Result<(), Fail> 
     let alloc = rt.alloc();
     let catalogue = catalogue_of_lines(alloc, TABLES)?;
     if let Some(block) = block_of_case(alloc, &catalogue, "s s s", ORDERS, &NoPredicates)? {
-        let count = kept(alloc, &block, catalogue.tables(), &NoPredicates, 28)?;
+        let query = Fitting::new(&block, catalogue.tables(), &NoPredicates);
+        let count = kept(alloc, &query, 28)?;
         assert_eq!(rt; count, 28);
         return Ok(());
     }

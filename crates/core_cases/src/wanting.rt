@@ -3,17 +3,14 @@
 //! `tools/fail-alloc` refuses the allocations of these tests, one after another. Where their sample finds no memory
 //! they end with that error; what is wrong is an assertion that fails.
 
-ghost use Rattle.sq_expr.specs.Fits.{IsFit};
-ghost use Rattle.sq_expr.specs.Reach.{IsReachable};
-
 use crate::compared::is_bag;
 use crate::drawn::{statement, tables, ways};
 use crate::events::{NO_BANDS, event};
 use crate::policies::keys_by_policy;
 use case_kit::{block_of_case, catalogue_of_lines};
 use eddy_core::{Core, StepRefused};
-use sq_expr::Block;
-use sq_value::{Memory, NoPredicates, Predicates, Tables};
+use eddy_query::Fitting;
+use sq_value::{Memory, NoPredicates, Predicates};
 use std::alloc::Global;
 use std::test::Fail;
 use tuple_span::Tuple;
@@ -100,20 +97,15 @@ fn drive<F: Predicates>(
 // How many keys random events on a block have asked for at its end, if they come to an end with its bag.
 fn keys_by_events<F: Predicates>(
     alloc: Global,
-    block: &Block,
-    tables: &Tables,
-    functions: &F,
+    query: &Fitting<'_, F>,
     state: &mut u64,
-) -> Result<Option<u64>, Fail>
-    requires fits { IsFit (F.kinds_of functions.now) tables.now block.now }
-    requires reachable { IsReachable block.now }
-{
-    let mut core = Core::start(alloc, block, tables, functions)?;
+) -> Result<Option<u64>, Fail> {
+    let mut core = Core::start(alloc, query)?;
     if !drive(alloc, &mut core, state)? {
         return Ok(None);
     }
     let (found, built) = (core.results(), core.built());
-    if !is_bag(alloc, block, tables, functions, found, built)? {
+    if !is_bag(alloc, query, found, built)? {
         return Ok(None);
     }
     Ok(Some(core.asked().len() as u64))
@@ -122,19 +114,14 @@ fn keys_by_events<F: Predicates>(
 // Whether a block is run to its bag, by random events or under the policy of a word, and asks for keys.
 fn is_right<F: Predicates>(
     alloc: Global,
-    block: &Block,
-    tables: &Tables,
-    functions: &F,
+    query: &Fitting<'_, F>,
     state: &mut u64,
     word: &str,
-) -> Result<bool, Fail>
-    requires fits { IsFit (F.kinds_of functions.now) tables.now block.now }
-    requires reachable { IsReachable block.now }
-{
+) -> Result<bool, Fail> {
     let keys = if word == EVENTS {
-        keys_by_events(alloc, block, tables, functions, state)?
+        keys_by_events(alloc, query, state)?
     } else {
-        keys_by_policy(alloc, block, tables, functions, word)?
+        keys_by_policy(alloc, query, word)?
     };
     Ok(keys.unwrap_or(0) > 0)
 }
@@ -148,8 +135,8 @@ fn try_block(alloc: Global, state: &mut u64, word: &str) -> Result<bool, Fail> {
     let catalogue = catalogue_of_lines(alloc, lines.as_str())?;
     match block_of_case(alloc, &catalogue, ways, text, &NoPredicates)? {
         Some(block) => {
-            let tables = catalogue.tables();
-            is_right(alloc, &block, tables, &NoPredicates, state, word)
+            let query = Fitting::new(&block, catalogue.tables(), &NoPredicates);
+            is_right(alloc, &query, state, word)
         }
         None => Ok(false),
     }

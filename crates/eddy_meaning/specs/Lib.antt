@@ -12,3 +12,4 @@ pub mod Chased
 pub mod Act
 pub mod Hops
 pub mod Shared
+pub mod Literal

@@ -8,6 +8,8 @@
 
 mod entry;
 mod laws;
+mod literal;
 
 pub use entry::Entry;
 pub use laws::{module_laws, owed_laws, route_laws, shared_laws};
+pub use literal::is_literal;

@@ -12,8 +12,11 @@ use std::alloc::{AllocError, Global};
 /// What a lane was given in each part of a run, and what came of it.
 #[derive(Clone, Copy, Debug)]
 pub struct Row {
+    /// The lane.
     pub lane: Lane,
+    /// How many tuples it was given, by the part of the run.
     pub given: [u64; 10],
+    /// How many tuples came of them, by the part of the run.
     pub came: [u64; 10],
 }
 
@@ -22,10 +25,15 @@ pub struct Row {
 /// given something.
 #[derive(Drop)]
 pub struct Figures {
+    /// The number of its statement, from 1.
     pub number: usize,
+    /// The rows that were built, by alias.
     pub built: Vec<usize>,
+    /// The most hops of a tuple.
     pub hops: u32,
+    /// How many keys were looked up.
     pub looked: usize,
+    /// A row for each lane that was given something.
     pub rows: Vec<Row>,
 }
 

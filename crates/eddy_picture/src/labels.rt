@@ -8,9 +8,13 @@ use std::alloc::{AllocError, Global};
 /// order of their numbers.
 #[derive(Clone, Copy)]
 pub struct Scope<'t> {
+    /// The block.
     pub block: &'t Block,
+    /// Its tables.
     pub tables: &'t Tables,
+    /// A label for each alias, by the alias's number.
     pub labels: &'t [String],
+    /// The names of the predicates, by their numbers.
     pub predicates: &'t [&'t str],
 }
 

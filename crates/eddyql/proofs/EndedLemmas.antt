@@ -5,7 +5,6 @@ use Rattle.std.specs.Option.{option_map_or}
 use Rattle.outside.specs.Faults.{NeverFalls, RoseOrFull}
 use Rattle.outside.specs.Told.{Adds, AddsFront}
 use Rattle.outside.proofs.Laws.{AddsFront-whole, AddsFront-nothing}
-use Rattle.result_sink.specs.declared.fault.WriteFault.TheVariants as write
 use Rattle.command_line.specs.declared.command.Task.{Task}
 use Rattle.command_line.specs.declared.command.Task.TheVariants as task
 use Rattle.remote_lookup.specs.declared.remote.RemoteFault.{RemoteFault}
@@ -43,7 +42,7 @@ use Rattle.eddyql.proofs.StageLemmas.{MayEnd-early, MayEnd-late, MayEnd-other, e
 -- ---- the ends
 
 -- answers were written, or weren't
-pub answered_done : {O N : Type 0} (tally : Bool) (old new : Outputs O N) (text : List ℕ) → Wrote old.out new.out text {A = Unit {0}} (Ok tt)
+pub answered_done : {O N : Type 0} (tally : Bool) (old new : Outputs O N) (text : List ℕ) → Wrote old.out new.out text (Ok tt)
     → AnsweredBy tally old new text (end.By status.Done)
 answered_done tally old new text w = record {
   counts = w.counts;
@@ -54,7 +53,7 @@ answered_done tally old new text w = record {
   late = tt;
 }
 
-pub answered_write : {O N : Type 0} (tally : Bool) (old new : Outputs O N) (text : List ℕ) → Wrote old.out new.out text {A = Unit {0}} (Err write.Failed)
+pub answered_write : {O N : Type 0} (tally : Bool) (old new : Outputs O N) (text : List ℕ) → Wrote old.out new.out text (Err stop.Output)
     → AnsweredBy tally old new text (end.By status.Write)
 answered_write tally old new text w = record {
   counts = w.counts;
@@ -65,7 +64,7 @@ answered_write tally old new text w = record {
   late = tt;
 }
 
-pub answered_notes : {O N : Type 0} (tally : Bool) (old new : Outputs O N) (text : List ℕ) → Wrote old.out new.out text {A = Unit {0}} (Err write.Memory)
+pub answered_notes : {O N : Type 0} (tally : Bool) (old new : Outputs O N) (text : List ℕ) → Wrote old.out new.out text (Err stop.Notes)
     → tally ≡ true → RoseOrFull old.notes.faults new.notes.faults → AnsweredBy tally old new text end.ByNotes
 answered_notes tally old new text w wanted rose = record {
   counts = w.counts;
@@ -76,7 +75,7 @@ answered_notes tally old new text w wanted rose = record {
   late = tt;
 }
 
-pub answered_memory : {O N : Type 0} (tally : Bool) (old new : Outputs O N) (text : List ℕ) → Wrote old.out new.out text {A = Unit {0}} (Err write.Memory)
+pub answered_memory : {O N : Type 0} (tally : Bool) (old new : Outputs O N) (text : List ℕ) → Wrote old.out new.out text (Err stop.Notes)
     → AnsweredBy tally old new text (end.By status.Memory)
 answered_memory tally old new text w = record {
   counts = w.counts;

@@ -14,7 +14,9 @@ use std::alloc::Global;
 /// What the words ask for: a script over tables or the demo, and how its statements are run.
 #[derive(Debug, Drop)]
 pub struct Request {
+    /// A script over tables, or the demo.
     pub task: Task,
+    /// How its statements are run.
     pub settings: Settings,
 }
 

@@ -5,8 +5,11 @@ use std::alloc::Global;
 /// What a run is handed: the runtime that starts threads, the allocator, and the gate that several
 /// workers call.
 pub struct Host<'h, G, R> {
+    /// The runtime that starts threads.
     pub rt: &'h R,
+    /// The allocator.
     pub alloc: Global,
+    /// The gate that several workers call.
     pub gate: &'h G,
 }
 

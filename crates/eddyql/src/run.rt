@@ -131,7 +131,7 @@ fn end_with(answered: Result<(), Stop>) -> End
 }
 
 // Runs a plan without remotes, and says how that ended.
-fn run_plan<O: Sink, N: Sink, P: Predicates + Sync, G: Gate, R: Threads + Wait + Sync>(
+fn run_alone<O: Sink, N: Sink, P: Predicates + Sync, G: Gate, R: Threads + Wait + Sync>(
     engine: &Engine<'_, P, G, R>,
     task: &Task,
     plan: Plan,
@@ -224,7 +224,7 @@ fn run_any<F: Folder, O: Sink, N: Sink, P: Predicates + Sync, G: Gate, R: Thread
         (folder_seen (F.holds folder.new) (F.faults folder.new)) outputs.old outputs.new result }
 {
     if plan.remotes.is_empty() {
-        return run_plan(engine, task, plan, outputs);
+        return run_alone(engine, task, plan, outputs);
     }
     run_over(engine, plan, folder, outputs)
 }

@@ -72,6 +72,7 @@ fn tell<N: Sink>(notes: &mut N, refusal: Refusal) {
         Refusal::Memory => "out of memory\n",
         Refusal::Output => "write fault\n",
     };
+    // (what it answers is not asked for here)
     let _told = notes.put(line.as_bytes());
 }
 

@@ -16,7 +16,9 @@ pub type Stored = Box<dyn Fn(&Value, &Value) -> Truth + Send + Sync>;
 /// which answers the meaning of its number among those of M.
 #[derive(Drop)]
 pub struct Registered<const M: u32> {
+    /// Its name, its number and the types of its arguments.
     pub signature: Signature,
+    /// What it is called by.
     pub f: Stored,
     ghost callable: { (x : Bor Value) (y : Bor Value) → HasKind signature.kinds.first x.now
         → HasKind signature.kinds.second y.now → Stored.pre f x y },

@@ -14,5 +14,6 @@ pub enum Out {
 /// A line: one cell for each of the shape's.
 #[derive(Debug, Drop)]
 pub struct Line {
+    /// A cell for each of the shape's, in order.
     pub cells: Items<Out>,
 }

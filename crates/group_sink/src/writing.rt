@@ -1,11 +1,9 @@
 //! Writes lines as CSV: the heading, and a record for each line.
-ghost use Rattle.std.specs.Prelude.{◌≡◌, ◌++◌, Err, List, ℕ, OnOk, OnErr, map};
+ghost use Rattle.std.specs.Prelude.{◌≡◌, ◌++◌, List, ℕ, OnOk, map};
 ghost use Rattle.std.specs.List.{flat_map};
 ghost use Rattle.csv.specs.Writing.{default_writer, field_text, row_text};
 ghost use Rattle.sq_value.specs.Decimal.{decimal_text};
-ghost use Rattle.outside.specs.Faults.{NeverFalls, RoseOrFull};
-ghost use Rattle.outside.specs.Told.{Adds, AddsFront};
-ghost use Rattle.result_sink.specs.Ready.{AddsPart};
+ghost use Rattle.result_sink.specs.Wrote.{Wrote};
 ghost use Rattle.group_sink.specs.Lines.{lines_text, out_text};
 ghost use Rattle.group_sink.specs.Texts.{heading_text, line_text};
 ghost use Rattle.group_sink.specs.declared.line.Line.{Line as TheLine};
@@ -65,13 +63,8 @@ fn record_line(line: &mut Vec<u8>, text: &mut Vec<u8>, shown: &Line) -> Result<(
 
 /// One put of the heading.
 fn put_heading<O: Sink>(line: &mut Vec<u8>, shape: &Shape, out: &mut O) -> Result<(), WriteFault>
-    ensures counts { NeverFalls (O.faults out.old) (O.faults out.new) }
-    ensures ok { OnOk result (Adds (O.written out.old) (O.written out.new) (heading_text shape.now)) }
-    ensures failed { result ≡ Err WriteFault.Failed → RoseOrFull (O.faults out.old) (O.faults out.new) }
-    ensures front { OnErr result (AddsFront (O.written out.old) (O.written out.new) (heading_text shape.now)) }
-    ensures short { result ≡ Err WriteFault.Memory
-        → AddsPart (O.written out.old) (O.written out.new) (heading_text shape.now) }
-    ensures kept { OnOk result (O.faults out.new ≡ O.faults out.old) }
+    ensures wrote { Wrote (heading_text shape.now)
+        (O.written out.old) (O.written out.new) (O.faults out.old) (O.faults out.new) result }
 {
     match heading_line(line, shape) {
         Ok(()) => put_line(line, out),
@@ -86,13 +79,8 @@ fn put_record<O: Sink>(
     shown: &Line,
     out: &mut O,
 ) -> Result<(), WriteFault>
-    ensures counts { NeverFalls (O.faults out.old) (O.faults out.new) }
-    ensures ok { OnOk result (Adds (O.written out.old) (O.written out.new) (line_text shown.now)) }
-    ensures failed { result ≡ Err WriteFault.Failed → RoseOrFull (O.faults out.old) (O.faults out.new) }
-    ensures front { OnErr result (AddsFront (O.written out.old) (O.written out.new) (line_text shown.now)) }
-    ensures short { result ≡ Err WriteFault.Memory
-        → AddsPart (O.written out.old) (O.written out.new) (line_text shown.now) }
-    ensures kept { OnOk result (O.faults out.new ≡ O.faults out.old) }
+    ensures wrote { Wrote (line_text shown.now)
+        (O.written out.old) (O.written out.new) (O.faults out.old) (O.faults out.new) result }
 {
     match record_line(line, text, shown) {
         Ok(()) => put_line(line, out),
@@ -107,13 +95,8 @@ fn put_records<O: Sink>(
     lines: &[Line],
     out: &mut O,
 ) -> Result<(), WriteFault>
-    ensures counts { NeverFalls (O.faults out.old) (O.faults out.new) }
-    ensures ok { OnOk result (Adds (O.written out.old) (O.written out.new) (flat_map line_text lines.now)) }
-    ensures failed { result ≡ Err WriteFault.Failed → RoseOrFull (O.faults out.old) (O.faults out.new) }
-    ensures front { OnErr result (AddsFront (O.written out.old) (O.written out.new) (flat_map line_text lines.now)) }
-    ensures short { result ≡ Err WriteFault.Memory
-        → AddsPart (O.written out.old) (O.written out.new) (flat_map line_text lines.now) }
-    ensures kept { OnOk result (O.faults out.new ≡ O.faults out.old) }
+    ensures wrote { Wrote (flat_map line_text lines.now)
+        (O.written out.old) (O.written out.new) (O.faults out.old) (O.faults out.new) result }
 {
     let mut text = Vec::new(alloc);
     for shown in lines {
@@ -134,15 +117,8 @@ pub fn write_report<O: Sink>(
     lines: &[Line],
     out: &mut O,
 ) -> Result<(), WriteFault>
-    ensures counts { NeverFalls (O.faults out.old) (O.faults out.new) }
-    ensures ok { OnOk result (Adds (O.written out.old) (O.written out.new)
-        (lines_text shape.now (map (λ (line : TheLine). line.cells) lines.now))) }
-    ensures failed { result ≡ Err WriteFault.Failed → RoseOrFull (O.faults out.old) (O.faults out.new) }
-    ensures front { OnErr result (AddsFront (O.written out.old) (O.written out.new)
-        (lines_text shape.now (map (λ (line : TheLine). line.cells) lines.now))) }
-    ensures short { result ≡ Err WriteFault.Memory → AddsPart (O.written out.old) (O.written out.new)
-        (lines_text shape.now (map (λ (line : TheLine). line.cells) lines.now)) }
-    ensures kept { OnOk result (O.faults out.new ≡ O.faults out.old) }
+    ensures wrote { Wrote (lines_text shape.now (map (λ (line : TheLine). line.cells) lines.now))
+        (O.written out.old) (O.written out.new) (O.faults out.old) (O.faults out.new) result }
 {
     let mut line = Vec::new(alloc);
     put_heading(&mut line, shape, out)?;

@@ -62,6 +62,7 @@ pub fn probed(
     requires legal { IsLegal block.now tuple.now (Probe alias via) }
     ensures { stem.new ≡ stem.old }
 {
+    // For the proof alone.
     let _block = block;
     let _tables = tables;
     let _alias = alias;

@@ -108,6 +108,7 @@ fn end_asked<'t>(
     requires of { IsModuleOf block.now tables.now alias stem.old }
     requires none { HasNone block.now tables.now alias (rank_of_key key) }
 {
+    // For the proof alone.
     let _block = block;
     let _tables = tables;
     let _alias = alias;

@@ -28,6 +28,7 @@ fn keep_in(kept: &mut LruCache<CallKey, Truth>, key: CallKey, truth: Truth)
     ensures { (kept.new ≡ kept.old)
         ⊎ (kept.new ≡ lru_cache (take kept.old.cap ((key, truth) ∷ kept.old.entries)) kept.old.cap) }
 {
+    // For the proof alone.
     let _few = kept.len();
     let _ = kept.put(key, truth);
 }

@@ -7,13 +7,14 @@ use Rattle.std.proofs.lemmas.List.Concat.{flat_map-append, flat_map-cons}
 use Rattle.sq_expr.specs.declared.shape.Shape.{Shape}
 use Rattle.sq_value.specs.declared.value.Value.{Value}
 use Rattle.sq_value.specs.declared.value.Truth.{Truth}
-use Rattle.outside.proofs.Laws.{Adds-nothing, AddsFront-whole}
+use Rattle.outside.proofs.Laws.{AddsFront-whole}
+use Rattle.result_sink.proofs.WroteLemmas.{wrote_none}
 use Rattle.run_base.specs.Items.{Item}
 use Rattle.run_base.specs.Seen.{Outputs}
 use Rattle.run_answers.specs.Answering.{Answers, AnswersOne}
 use Rattle.run_answers.specs.Text.{behind_line, item_text, numbered_text, text_by, text_of}
 use Rattle.run_answers.specs.declared.stopping.Stop.TheVariants as stop
-use Rattle.run_answers.proofs.AnswerLemmas.{plain_text-some, shaped_text-some, wrote_no_memory}
+use Rattle.run_answers.proofs.AnswerLemmas.{plain_text-some, shaped_text-some}
 
 -- what predicates give
 abbrev Gives : Type 0
@@ -31,6 +32,7 @@ answers_cut tally IsRight number items text old new a = record {
     kept = tt;
     failed = λ e. absurd cc;
     front = AddsFront-whole old.out.written new.out.written (text items) a.out.ok;
+    short = λ e. absurd cc;
   };
   notes = record {
     finished = a.notes.finished;
@@ -51,10 +53,9 @@ one_unput {O = O} {N = N} tally IsRight number item text old new some e =
       line = None;
       right = tt;
       put = record {
-        out = wrote_no_memory old.out text;
+        out = wrote_none text old.out.written old.out.faults stop.Memory some (λ f. cc);
         whole = λ f. absurd cc;
         kept = λ f. absurd cc;
-        short = λ f. ([], text, refl, some, Adds-nothing old.out.written);
         notes = refl;
       };
     })

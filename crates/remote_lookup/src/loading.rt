@@ -63,6 +63,7 @@ pub fn load_needed<P: Predicates, F: Folder>(
     ensures names { IfErr result (NamesOneOf (length remotes.now)) }
     ensures no_memory { (at : Key) → result ≢ Err (RemoteFault.BadFile at (KeyFault.Table TableFault.Memory)) }
 {
+    // For the proof alone.
     let _count = tables.len();
     let asks = asks_of(alloc, block, remotes)?;
     let query = Query {

@@ -20,7 +20,9 @@ pub struct Remote {
 /// A key of a remote; remotes count from 0. Keys are ordered by remote, and then as integers.
 #[derive(Clone, Copy, Debug, PartialEq, Eq, PartialOrd, Ord)]
 pub struct RemoteKey {
+    /// The number of the remote, from 0.
     pub remote: u32,
+    /// The key.
     pub key: i64,
 }
 
@@ -39,7 +41,9 @@ pub enum KeyFault {
 /// record; and the needed keys, by remote and then rising.
 #[derive(Debug, Drop)]
 pub struct Loaded {
+    /// The table of each remote, with the rows of the needed keys, by key and then by record.
     pub tables: Vec<Table>,
+    /// The needed keys, by remote and then rising.
     pub keys: Vec<RemoteKey>,
 }
 

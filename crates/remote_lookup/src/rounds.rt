@@ -208,6 +208,7 @@ pub(crate) fn load_rounds<P: Predicates, F: Folder>(
         (F.faults folder.new)) }
 {
     while !work.asked.fresh.is_empty() {
+        // For the proof alone.
         let _count = work.loaded.len();
         let fresh = work.asked.take_fresh(alloc)?;
         if let Some(remote) = crowded(work.tallies.as_slice(), fresh.as_slice()) {

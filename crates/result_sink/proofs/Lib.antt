@@ -1,4 +1,5 @@
 pub mod TextLemmas
+pub mod WroteLemmas
 mod DecimalLaws
 pub mod KeyLaws
 mod OrderLaws

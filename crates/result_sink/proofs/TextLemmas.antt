@@ -3,9 +3,9 @@ use Rattle.std.proofs.Common.{◌≡◌, ◌≢◌, ℕ, ◌+◌, ◌<◌, ◌�
 use Rattle.std.proofs.lemmas.List.{take_more, take_all, get_or-map, take-append-drop, length-append, length-map, append-nil}
 use Rattle.std.proofs.lemmas.Bool.Decides.{Decides-eqb}
 use Rattle.std.specs.List.{flat_map}
-use Rattle.std.specs.Prelude.{Option, Result, Ok, Err, OnOk}
-use Rattle.outside.specs.Told.{Adds, AddsFront}
-use Rattle.outside.proofs.Laws.{Adds-nothing, Adds-twice, AddsFront-within}
+use Rattle.std.specs.Prelude.{Option}
+use Rattle.outside.specs.Told.{Adds}
+use Rattle.outside.proofs.Laws.{Adds-nothing, Adds-twice}
 use Rattle.std.proofs.lemmas.List.Concat.{flat_map-append, flat_map-cons}
 use Rattle.sq_value.specs.Relation.{Relation}
 use Rattle.sq_expr.specs.declared.block.Block.{Block}
@@ -135,12 +135,6 @@ answer_text-combos block tables combos =
     ap (λ (z : List ℕ). row_text default_writer (heading_fields block) ++ z)
     (flat_map-map (λ rows. row_text default_writer (row_fields block tables rows)) (rows_of_combo block) combos)
 
--- a text, and then a last text that was added where a call succeeded
-pub Adds-at_ok : {T E : Type 0} (r : Result T E) (old mid new : Option (List ℕ)) (first second : List ℕ)
-    → Adds old mid first → OnOk r (Adds mid new second) → OnOk r (Adds old new (first ++ second))
-Adds-at_ok (Ok x) old mid new first second h k = Adds-twice old mid new first second h k
-Adds-at_ok (Err e) old mid new first second h k = tt
-
 -- ---- a part of a text
 
 -- a text that isn't empty, of which nothing was added
@@ -162,13 +156,6 @@ AddsPart-longer old new text more (front, rest, split, some, k) =
     still [] n = absurd (n refl)
     still (x ∷ xs) n = λ e. cc
 
--- a text, a part of the next, and a whole that begins with both
-pub AddsPart-within : (old mid new : Option (List ℕ)) (first second more text : List ℕ) → text ≡ (first ++ second) ++ more
-    → Adds old mid first → AddsPart mid new second → AddsPart old new text
-AddsPart-within old mid new first second more text split h k =
-    subst (AddsPart old new) (sym split)
-    (AddsPart-longer old new (first ++ second) more (AddsPart-after old mid new first second h k))
-
 -- a record's text ends with a line feed, so it is never empty
 pub row_text-some : (fields : List (List ℕ)) → row_text default_writer fields ≢ []
 row_text-some fields e =
@@ -187,7 +174,7 @@ pub AddsBefore-start : {X : Type 0} (f : X → List ℕ) (xs : List X) (told : O
 AddsBefore-start f xs told = ([], refl, Adds-nothing told)
 
 -- the text of three parts
-flat_map-parts : {X : Type 0} (f : X → List ℕ) (xs front rest some more : List X) → xs ≡ front ++ rest → rest ≡ some ++ more
+pub flat_map-parts : {X : Type 0} (f : X → List ℕ) (xs front rest some more : List X) → xs ≡ front ++ rest → rest ≡ some ++ more
     → flat_map f xs ≡ (flat_map f front ++ flat_map f some) ++ flat_map f more
 flat_map-parts {X = X} f xs front rest some more e k =
     ap (flat_map f) (e ∙ ap (λ (z : List X). front ++ z) k) ∙ flat_map-append f front (some ++ more)
@@ -208,17 +195,6 @@ pub AddsBefore-all : {X : Type 0} (f : X → List ℕ) (xs rest : List X) (old n
     → AddsBefore f xs rest old new → Adds old new (flat_map f xs)
 AddsBefore-all f xs [] old new none (front, e, h) = subst (λ ys. Adds old new (flat_map f ys)) (sym (e ∙ append-nil front)) h
 AddsBefore-all f xs (x ∷ rest) old new none before = absurd (omega arith)
-
--- a front or a part of the next one
-pub AddsBefore-front : {X : Type 0} (f : X → List ℕ) (xs rest some more : List X) (old mid new : Option (List ℕ))
-    → rest ≡ some ++ more → AddsBefore f xs rest old mid → AddsFront mid new (flat_map f some) → AddsFront old new (flat_map f xs)
-AddsBefore-front f xs rest some more old mid new k (front, e, h) step =
-    AddsFront-within old mid new (flat_map f front) (flat_map f some) (flat_map f more) (flat_map f xs) (flat_map-parts f xs front rest some more e k) h step
-
-pub AddsBefore-part : {X : Type 0} (f : X → List ℕ) (xs rest some more : List X) (old mid new : Option (List ℕ))
-    → rest ≡ some ++ more → AddsBefore f xs rest old mid → AddsPart mid new (flat_map f some) → AddsPart old new (flat_map f xs)
-AddsBefore-part f xs rest some more old mid new k (front, e, h) step =
-    AddsPart-within old mid new (flat_map f front) (flat_map f some) (flat_map f more) (flat_map f xs) (flat_map-parts f xs front rest some more e k) h step
 
 -- the records of some combinations aren't nothing
 pub records-some : (block : Block) (tables : List Relation) (combos : List Combo) → 0 < length combos → flat_map (record_text block tables) combos ≢ []

@@ -1,3 +1,4 @@
 pub mod Ready
+pub mod Wrote
 pub mod Written
 pub mod Samples

@@ -1,10 +1,9 @@
 //! The records of a large answer in blocks: whole records until 64 KiB are full, and one put for each block.
 
-ghost use Rattle.std.specs.Prelude.{◌≡◌, ◌<◌, ◌≤◌, ◌++◌, List, Err, OnOk, OnErr, IfOk, length, take};
+ghost use Rattle.std.specs.Prelude.{◌≡◌, ◌<◌, ◌≤◌, ◌++◌, List, IfOk, length, take};
 ghost use Rattle.std.specs.List.{flat_map};
-ghost use Rattle.outside.specs.Faults.{NeverFalls, RoseOrFull};
-ghost use Rattle.outside.specs.Told.{Adds, AddsFront};
-ghost use Rattle.result_sink.specs.Ready.{IsShown, AddsPart, record_text};
+ghost use Rattle.result_sink.specs.Ready.{IsShown, record_text};
+ghost use Rattle.result_sink.specs.Wrote.{Wrote};
 
 use crate::ahead::{keep_read, read_shown};
 use crate::fault::WriteFault;
@@ -60,16 +59,10 @@ fn put_block<'c, O: Sink>(
 ) -> Result<&'c [Combo], WriteFault>
     requires shown { IsShown block.now tables.now }
     requires some { 0 < length combos.now }
-    ensures counts { NeverFalls (O.faults out.old) (O.faults out.new) }
     ensures fewer { IfOk result (λ rest. length rest.now < length combos.now) }
-    ensures ok { IfOk result (λ rest. (some : List Combo) × (combos.now ≡ some ++ rest.now)
-        × Adds (O.written out.old) (O.written out.new) (flat_map (record_text block.now tables.now) some)) }
-    ensures failed { result ≡ Err WriteFault.Failed → RoseOrFull (O.faults out.old) (O.faults out.new) }
-    ensures front { OnErr result (AddsFront (O.written out.old) (O.written out.new)
-        (flat_map (record_text block.now tables.now) combos.now)) }
-    ensures short { result ≡ Err WriteFault.Memory → AddsPart (O.written out.old) (O.written out.new)
-        (flat_map (record_text block.now tables.now) combos.now) }
-    ensures kept { OnOk result (O.faults out.new ≡ O.faults out.old) }
+    ensures wrote { (some : List Combo) × (more : List Combo) × (combos.now ≡ some ++ more)
+        × IfOk result (λ rest. rest.now ≡ more) × Wrote (flat_map (record_text block.now tables.now) some)
+        (O.written out.old) (O.written out.new) (O.faults out.old) (O.faults out.new) result }
 {
     let Ok(many) = fill(text, line, block, tables, combos) else {
         return Err(WriteFault::Memory);
@@ -89,15 +82,8 @@ pub(crate) fn put_blocks<O: Sink>(
     out: &mut O,
 ) -> Result<(), WriteFault>
     requires { IsShown block.now tables.now }
-    ensures counts { NeverFalls (O.faults out.old) (O.faults out.new) }
-    ensures ok { OnOk result (Adds (O.written out.old) (O.written out.new)
-        (flat_map (record_text block.now tables.now) combos.now)) }
-    ensures failed { result ≡ Err WriteFault.Failed → RoseOrFull (O.faults out.old) (O.faults out.new) }
-    ensures front { OnErr result (AddsFront (O.written out.old) (O.written out.new)
-        (flat_map (record_text block.now tables.now) combos.now)) }
-    ensures short { result ≡ Err WriteFault.Memory → AddsPart (O.written out.old) (O.written out.new)
-        (flat_map (record_text block.now tables.now) combos.now) }
-    ensures kept { OnOk result (O.faults out.new ≡ O.faults out.old) }
+    ensures wrote { Wrote (flat_map (record_text block.now tables.now) combos.now)
+        (O.written out.old) (O.written out.new) (O.faults out.old) (O.faults out.new) result }
 {
     let mut text = Vec::new(alloc);
     let mut rest = combos;

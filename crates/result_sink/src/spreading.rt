@@ -1,11 +1,10 @@
 //! Writes an answer as CSV, with its records made in several threads.
 
-ghost use Rattle.std.specs.Prelude.{◌≡◌, ◌<◌, Err, OnOk, OnErr, length, map};
+ghost use Rattle.std.specs.Prelude.{◌≡◌, ◌<◌, Err, OnErr, length, map};
 ghost use Rattle.std.specs.List.{flat_map};
 ghost use Rattle.bag_meaning.specs.Answer.{answer_text};
-ghost use Rattle.outside.specs.Faults.{NeverFalls, RoseOrFull};
-ghost use Rattle.outside.specs.Told.{Adds, AddsFront};
-ghost use Rattle.result_sink.specs.Ready.{IsShown, AddsPart, rows_of_combo, record_text};
+ghost use Rattle.result_sink.specs.Ready.{IsShown, rows_of_combo, record_text};
+ghost use Rattle.result_sink.specs.Wrote.{Wrote};
 
 use crate::fault::WriteFault;
 use crate::halving::MANY;
@@ -23,13 +22,9 @@ const WINDOW: usize = 65_536;
 
 /// A put for each text, in order.
 fn put_texts<O: Sink>(texts: &[Vec<u8>], out: &mut O) -> Result<(), WriteFault>
-    ensures counts { NeverFalls (O.faults out.old) (O.faults out.new) }
-    ensures ok { OnOk result (Adds (O.written out.old) (O.written out.new) (flat_map (λ text. text.items) texts.now)) }
-    ensures failed { OnErr result (RoseOrFull (O.faults out.old) (O.faults out.new)) }
+    ensures wrote { Wrote (flat_map (λ text. text.items) texts.now)
+        (O.written out.old) (O.written out.new) (O.faults out.old) (O.faults out.new) result }
     ensures only { OnErr result (result ≡ Err WriteFault.Failed) }
-    ensures front { OnErr result (AddsFront (O.written out.old) (O.written out.new)
-        (flat_map (λ text. text.items) texts.now)) }
-    ensures kept { OnOk result (O.faults out.new ≡ O.faults out.old) }
 {
     for text in texts {
         put_line(text.as_slice(), out)?;
@@ -49,15 +44,8 @@ fn put_some<O: Sink, R: Threads + Sync>(
 ) -> Result<(), WriteFault>
     requires shown { IsShown block.now tables.now }
     requires some { 0 < length combos.now }
-    ensures counts { NeverFalls (O.faults out.old) (O.faults out.new) }
-    ensures ok { OnOk result (Adds (O.written out.old) (O.written out.new)
-        (flat_map (record_text block.now tables.now) combos.now)) }
-    ensures failed { result ≡ Err WriteFault.Failed → RoseOrFull (O.faults out.old) (O.faults out.new) }
-    ensures front { OnErr result (AddsFront (O.written out.old) (O.written out.new)
-        (flat_map (record_text block.now tables.now) combos.now)) }
-    ensures short { result ≡ Err WriteFault.Memory → AddsPart (O.written out.old) (O.written out.new)
-        (flat_map (record_text block.now tables.now) combos.now) }
-    ensures kept { OnOk result (O.faults out.new ≡ O.faults out.old) }
+    ensures wrote { Wrote (flat_map (record_text block.now tables.now) combos.now)
+        (O.written out.old) (O.written out.new) (O.faults out.old) (O.faults out.new) result }
 {
     match texts_of(rt, alloc, threads, block, tables, combos) {
         Ok(texts) => put_texts(texts.as_slice(), out),
@@ -76,15 +64,8 @@ pub(crate) fn put_all<O: Sink, R: Threads + Sync>(
     out: &mut O,
 ) -> Result<(), WriteFault>
     requires { IsShown block.now tables.now }
-    ensures counts { NeverFalls (O.faults out.old) (O.faults out.new) }
-    ensures ok { OnOk result (Adds (O.written out.old) (O.written out.new)
-        (flat_map (record_text block.now tables.now) combos.now)) }
-    ensures failed { result ≡ Err WriteFault.Failed → RoseOrFull (O.faults out.old) (O.faults out.new) }
-    ensures front { OnErr result (AddsFront (O.written out.old) (O.written out.new)
-        (flat_map (record_text block.now tables.now) combos.now)) }
-    ensures short { result ≡ Err WriteFault.Memory → AddsPart (O.written out.old) (O.written out.new)
-        (flat_map (record_text block.now tables.now) combos.now) }
-    ensures kept { OnOk result (O.faults out.new ≡ O.faults out.old) }
+    ensures wrote { Wrote (flat_map (record_text block.now tables.now) combos.now)
+        (O.written out.old) (O.written out.new) (O.faults out.old) (O.faults out.new) result }
 {
     let mut rest = combos;
     while !rest.is_empty() {
@@ -101,7 +82,7 @@ pub(crate) fn put_all<O: Sink, R: Threads + Sync>(
 /// # Errors
 /// `Failed`: the output's count of faults rose. `Memory`: there is no memory for a record or for the texts, and
 /// not all of the text was written. After either, a front of the answer's text was written.
-pub fn write_answer_by<O: Sink, R: Threads + Sync>(
+pub fn par_write_answer<O: Sink, R: Threads + Sync>(
     rt: &R,
     alloc: Global,
     threads: usize,
@@ -111,15 +92,8 @@ pub fn write_answer_by<O: Sink, R: Threads + Sync>(
     out: &mut O,
 ) -> Result<(), WriteFault>
     requires { IsShown block.now tables.now }
-    ensures counts { NeverFalls (O.faults out.old) (O.faults out.new) }
-    ensures ok { OnOk result (Adds (O.written out.old) (O.written out.new)
-        (answer_text block.now tables.now (map (rows_of_combo block.now) combos.now))) }
-    ensures failed { result ≡ Err WriteFault.Failed → RoseOrFull (O.faults out.old) (O.faults out.new) }
-    ensures front { OnErr result (AddsFront (O.written out.old) (O.written out.new)
-        (answer_text block.now tables.now (map (rows_of_combo block.now) combos.now))) }
-    ensures short { result ≡ Err WriteFault.Memory → AddsPart (O.written out.old) (O.written out.new)
-        (answer_text block.now tables.now (map (rows_of_combo block.now) combos.now)) }
-    ensures kept { OnOk result (O.faults out.new ≡ O.faults out.old) }
+    ensures wrote { Wrote (answer_text block.now tables.now (map (rows_of_combo block.now) combos.now))
+        (O.written out.old) (O.written out.new) (O.faults out.old) (O.faults out.new) result }
 {
     if threads < 2 || combos.len() < MANY {
         return write_answer(alloc, block, tables, combos, out);

@@ -297,6 +297,7 @@ fn large_answers_are_put_in_blocks(rt: HostRuntime) -> Result<(), Fail> {
         let combos = rowless(alloc, many)?;
         let mut out = MemorySink::with_room(alloc, 200_000)?;
         out.fail_at(3, 0)?;
+        // (what it answers is not asked for here)
         let _fault = write_answer(alloc, &block, &tables, &combos, &mut out);
         assert_eq!(rt; out.written().len(), taken);
     }

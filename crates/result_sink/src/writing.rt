@@ -1,12 +1,11 @@
 //! Writes an answer as CSV: the heading, and a record for each combination.
 
-ghost use Rattle.std.specs.Prelude.{◌≡◌, Err, OnOk, OnErr, map};
+ghost use Rattle.std.specs.Prelude.{◌≡◌, Err, OnErr, map};
 ghost use Rattle.std.specs.List.{flat_map};
 ghost use Rattle.csv.specs.Writing.{default_writer, row_text};
 ghost use Rattle.bag_meaning.specs.Answer.{heading_fields, answer_text};
-ghost use Rattle.outside.specs.Faults.{NeverFalls, RoseOrFull};
-ghost use Rattle.outside.specs.Told.{Adds, AddsFront};
-ghost use Rattle.result_sink.specs.Ready.{IsShown, AddsPart, rows_of_combo, record_text};
+ghost use Rattle.result_sink.specs.Ready.{IsShown, rows_of_combo, record_text};
+ghost use Rattle.result_sink.specs.Wrote.{Wrote};
 
 use crate::ahead::{keep_read, read_shown};
 use crate::blocks::put_blocks;
@@ -21,12 +20,9 @@ use std::alloc::Global;
 
 /// One put of a line.
 pub fn put_line<O: Sink>(line: &[u8], out: &mut O) -> Result<(), WriteFault>
-    ensures counts { NeverFalls (O.faults out.old) (O.faults out.new) }
-    ensures ok { OnOk result (Adds (O.written out.old) (O.written out.new) line.now) }
-    ensures failed { OnErr result (RoseOrFull (O.faults out.old) (O.faults out.new)) }
+    ensures wrote { Wrote line.now
+        (O.written out.old) (O.written out.new) (O.faults out.old) (O.faults out.new) result }
     ensures only { OnErr result (result ≡ Err WriteFault.Failed) }
-    ensures front { OnErr result (AddsFront (O.written out.old) (O.written out.new) line.now) }
-    ensures kept { OnOk result (O.faults out.new ≡ O.faults out.old) }
 {
     match out.put(line) {
         Ok(()) => Ok(()),
@@ -40,15 +36,8 @@ pub(crate) fn put_heading<O: Sink>(
     block: &Block,
     out: &mut O,
 ) -> Result<(), WriteFault>
-    ensures counts { NeverFalls (O.faults out.old) (O.faults out.new) }
-    ensures ok { OnOk result (Adds (O.written out.old) (O.written out.new)
-        (row_text default_writer (heading_fields block.now))) }
-    ensures failed { result ≡ Err WriteFault.Failed → RoseOrFull (O.faults out.old) (O.faults out.new) }
-    ensures front { OnErr result (AddsFront (O.written out.old) (O.written out.new)
-        (row_text default_writer (heading_fields block.now))) }
-    ensures short { result ≡ Err WriteFault.Memory → AddsPart (O.written out.old) (O.written out.new)
-        (row_text default_writer (heading_fields block.now)) }
-    ensures kept { OnOk result (O.faults out.new ≡ O.faults out.old) }
+    ensures wrote { Wrote (row_text default_writer (heading_fields block.now))
+        (O.written out.old) (O.written out.new) (O.faults out.old) (O.faults out.new) result }
 {
     match heading_line(line, block) {
         Ok(()) => put_line(line, out),
@@ -65,15 +54,8 @@ fn put_record<O: Sink>(
     out: &mut O,
 ) -> Result<(), WriteFault>
     requires { IsShown block.now tables.now }
-    ensures counts { NeverFalls (O.faults out.old) (O.faults out.new) }
-    ensures ok { OnOk result (Adds (O.written out.old) (O.written out.new)
-        (record_text block.now tables.now combo.now)) }
-    ensures failed { result ≡ Err WriteFault.Failed → RoseOrFull (O.faults out.old) (O.faults out.new) }
-    ensures front { OnErr result (AddsFront (O.written out.old) (O.written out.new)
-        (record_text block.now tables.now combo.now)) }
-    ensures short { result ≡ Err WriteFault.Memory → AddsPart (O.written out.old) (O.written out.new)
-        (record_text block.now tables.now combo.now) }
-    ensures kept { OnOk result (O.faults out.new ≡ O.faults out.old) }
+    ensures wrote { Wrote (record_text block.now tables.now combo.now)
+        (O.written out.old) (O.written out.new) (O.faults out.old) (O.faults out.new) result }
 {
     match record_line(line, block, tables, combo) {
         Ok(()) => put_line(line, out),
@@ -90,15 +72,8 @@ fn put_records<O: Sink>(
     out: &mut O,
 ) -> Result<(), WriteFault>
     requires { IsShown block.now tables.now }
-    ensures counts { NeverFalls (O.faults out.old) (O.faults out.new) }
-    ensures ok { OnOk result (Adds (O.written out.old) (O.written out.new)
-        (flat_map (record_text block.now tables.now) combos.now)) }
-    ensures failed { result ≡ Err WriteFault.Failed → RoseOrFull (O.faults out.old) (O.faults out.new) }
-    ensures front { OnErr result (AddsFront (O.written out.old) (O.written out.new)
-        (flat_map (record_text block.now tables.now) combos.now)) }
-    ensures short { result ≡ Err WriteFault.Memory → AddsPart (O.written out.old) (O.written out.new)
-        (flat_map (record_text block.now tables.now) combos.now) }
-    ensures kept { OnOk result (O.faults out.new ≡ O.faults out.old) }
+    ensures wrote { Wrote (flat_map (record_text block.now tables.now) combos.now)
+        (O.written out.old) (O.written out.new) (O.faults out.old) (O.faults out.new) result }
 {
     let mut place = 0usize;
     for combo in combos {
@@ -120,15 +95,8 @@ fn put_lines<O: Sink>(
     out: &mut O,
 ) -> Result<(), WriteFault>
     requires { IsShown block.now tables.now }
-    ensures counts { NeverFalls (O.faults out.old) (O.faults out.new) }
-    ensures ok { OnOk result (Adds (O.written out.old) (O.written out.new)
-        (flat_map (record_text block.now tables.now) combos.now)) }
-    ensures failed { result ≡ Err WriteFault.Failed → RoseOrFull (O.faults out.old) (O.faults out.new) }
-    ensures front { OnErr result (AddsFront (O.written out.old) (O.written out.new)
-        (flat_map (record_text block.now tables.now) combos.now)) }
-    ensures short { result ≡ Err WriteFault.Memory → AddsPart (O.written out.old) (O.written out.new)
-        (flat_map (record_text block.now tables.now) combos.now) }
-    ensures kept { OnOk result (O.faults out.new ≡ O.faults out.old) }
+    ensures wrote { Wrote (flat_map (record_text block.now tables.now) combos.now)
+        (O.written out.old) (O.written out.new) (O.faults out.old) (O.faults out.new) result }
 {
     if combos.len() > MANY {
         return put_blocks(alloc, line, block, tables, combos, out);
@@ -153,15 +121,8 @@ pub fn write_answer<O: Sink>(
     out: &mut O,
 ) -> Result<(), WriteFault>
     requires { IsShown block.now tables.now }
-    ensures counts { NeverFalls (O.faults out.old) (O.faults out.new) }
-    ensures ok { OnOk result (Adds (O.written out.old) (O.written out.new)
-        (answer_text block.now tables.now (map (rows_of_combo block.now) combos.now))) }
-    ensures failed { result ≡ Err WriteFault.Failed → RoseOrFull (O.faults out.old) (O.faults out.new) }
-    ensures front { OnErr result (AddsFront (O.written out.old) (O.written out.new)
-        (answer_text block.now tables.now (map (rows_of_combo block.now) combos.now))) }
-    ensures short { result ≡ Err WriteFault.Memory → AddsPart (O.written out.old) (O.written out.new)
-        (answer_text block.now tables.now (map (rows_of_combo block.now) combos.now)) }
-    ensures kept { OnOk result (O.faults out.new ≡ O.faults out.old) }
+    ensures wrote { Wrote (answer_text block.now tables.now (map (rows_of_combo block.now) combos.now))
+        (O.written out.old) (O.written out.new) (O.faults out.old) (O.faults out.new) result }
 {
     let mut line = Vec::new(alloc);
     put_heading(&mut line, block, out)?;

@@ -1,4 +1,4 @@
--- Answers: the matches that are found, put in order, are the answer; and texts that are written one behind another.
+-- Answers: the matches that are found, put in order, are the answer; and its text is never empty.
 use Rattle.std.proofs.Common.{◌≡◌, ◌≢◌, ℕ, List, [], ◌∷◌, ◌++◌, length, take, get_or, map, Option, Some, None, Result, Ok, Err, refl, sym, ◌∙◌, ap, subst, arith}
 use Rattle.std.specs.Prelude.{All, AllPairs, IfOk}
 use Rattle.std.specs.List.Sorted.{IsPermutation}
@@ -28,15 +28,11 @@ use Rattle.bag_meaning.proofs.AnswerLemmas.{IsBefore, AllPairs-bag, IsAnswer-ans
 use Rattle.bag_meaning.proofs.KeyLemmas.{answer_order_total}
 use Rattle.bag_meaning.proofs.ProductRange.{bag-in_range}
 use Rattle.eddy_runs.specs.Complete.{IsBagOf}
-use Rattle.outside.proofs.Laws.{RoseOrFull-earlier, Adds-nothing, Adds-twice, AddsFront-nothing, AddsFront-after, AddsFront-longer}
 use Rattle.csv.specs.Writing.{row_text, default_writer}
 use Rattle.group_sink.specs.Lines.{lines_text, in_product_order}
 use Rattle.group_sink.proofs.ProductLemmas.{product-order, rows-differ}
 use Rattle.result_sink.proofs.TextLemmas.{row_text-some}
 use Rattle.result_sink.specs.Ready.{IsShown, IsOrdered, Differs, rows_of_combo}
-use Rattle.result_sink.specs.declared.fault.WriteFault.{WriteFault}
-use Rattle.result_sink.specs.declared.fault.WriteFault.TheVariants as write
-use Rattle.run_answers.specs.Wrote.{Wrote}
 use Rattle.run_base.specs.Items.{Item}
 use Rattle.run_base.specs.Seen.{Sink}
 use Rattle.run_answers.specs.Text.{plain_text, shaped_text, item_text, text_by}
@@ -167,47 +163,6 @@ same_written {S} old new same = ap (λ (s : Sink S). s.written) same
 
 pub same_faults : {S : Type 0} (old new : Sink S) → new ≡ old → new.faults ≡ old.faults
 same_faults {S} old new same = ap (λ (s : Sink S). s.faults) same
-
--- nothing was written
-pub wrote_nothing : {S : Type 0} (s : Sink S) → Wrote s s [] {A = Unit {0}} (Ok tt)
-wrote_nothing s = record { counts = omega arith; ok = Adds-nothing s.written; kept = refl; failed = λ e. absurd cc; front = tt }
-
--- want of memory, before anything was written
-pub wrote_no_memory : {S : Type 0} (s : Sink S) (text : List ℕ) → Wrote s s text {A = Unit {0}} (Err write.Memory)
-wrote_no_memory s text = record { counts = omega arith; ok = tt; kept = tt; failed = λ e. absurd cc; front = AddsFront-nothing s.written text }
-
--- a text is written behind another
-pub wrote_behind : {S : Type 0} (old mid new : Sink S) (first second : List ℕ) (r : Result (Unit {0}) WriteFault) → Wrote old mid first {A = Unit {0}} (Ok tt)
-    → Wrote mid new second r → Wrote old new (first ++ second) r
-wrote_behind old mid new first second (Ok x) w v = record {
-  counts = omega (arith, w.counts, v.counts);
-  ok = Adds-twice old.written mid.written new.written first second w.ok v.ok;
-  kept = v.kept ∙ w.kept;
-  failed = λ e. absurd cc;
-  front = tt;
-}
-wrote_behind old mid new first second (Err e) w v = record {
-  counts = omega (arith, w.counts, v.counts);
-  ok = tt;
-  kept = tt;
-  failed = λ f. RoseOrFull-earlier old.faults mid.faults new.faults w.counts (v.failed f);
-  front = AddsFront-after old.written mid.written new.written first second w.ok v.front;
-}
-
--- a text of which a front was written is a front of a longer one
-pub wrote_front : {S : Type 0} (old new : Sink S) (first second : List ℕ) (e : WriteFault) → Wrote old new first {A = Unit {0}} (Err e)
-    → Wrote old new (first ++ second) {A = Unit {0}} (Err e)
-wrote_front old new first second e w = record {
-  counts = w.counts;
-  ok = tt;
-  kept = tt;
-  failed = w.failed;
-  front = AddsFront-longer old.written new.written first second w.front;
-}
-
--- the same of an equal text
-pub wrote_text : {S : Type 0} (old new : Sink S) (text other : List ℕ) (r : Result (Unit {0}) WriteFault) → text ≡ other → Wrote old new text r → Wrote old new other r
-wrote_text old new text other r e w = subst (λ (x : List ℕ). Wrote old new x r) e w
 
 -- a text that begins with one that isn't empty isn't, either
 pub begun : (xs ys : List ℕ) → xs ≢ [] → xs ++ ys ≡ [] → ⊥

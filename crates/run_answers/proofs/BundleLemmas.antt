@@ -13,7 +13,7 @@ use Rattle.run_answers.specs.Lines.{AreLines, IsLine}
 use Rattle.run_answers.specs.SoFar.{IsFront, TookSoFar}
 use Rattle.run_answers.specs.Tally.{IsTally}
 use Rattle.run_answers.specs.Together.{IsBundleTally, IsSharedTally, in_bundles, bundles_of}
-use Rattle.run_answers.specs.Wrote.{Wrote, of_output}
+use Rattle.run_answers.specs.Wrote.{Wrote, by_output}
 use Rattle.run_answers.specs.declared.stopping.Stop.{Stop}
 use Rattle.run_answers.specs.declared.stopping.Stop.TheVariants as stop
 use Rattle.run_answers.proofs.TogetherLemmas.{in_one}
@@ -93,7 +93,7 @@ module _ {A B : Type 0} (f : A → B) (text : List A → List ℕ) (other : List
     pub answers_mapped : {O N : Type 0} (number : ℕ) (items : List A) (old new : Outputs O N) (r : Result (Unit {0}) Stop)
         → Answers tally IsRight number items text old new r → Answers tally IsOther number (map f items) other old new r
     answers_mapped number items old new r a = record {
-      out = subst (λ (z : List ℕ). Wrote old.out new.out z (of_output r)) (sym (law items)) a.out;
+      out = subst (λ (z : List ℕ). Wrote old.out new.out z (by_output r)) (sym (law items)) a.out;
       notes = record {
         finished = map f a.notes.finished;
         left = map f a.notes.left;

@@ -8,20 +8,25 @@ use Rattle.result_sink.specs.Ready.{AddsPart}
 use Rattle.outside.specs.Faults.{NeverFalls, RoseOrFull}
 use Rattle.outside.specs.Told.{Adds, AddsFront}
 use Rattle.outside.proofs.Laws.{Adds-nothing, Adds-twice, RoseOrFull-earlier}
-use Rattle.result_sink.specs.declared.fault.WriteFault.TheVariants as write
 use Rattle.run_answers.specs.Answering.{Answers, AnswersOne, Tallied, EndsSo, LinesPut, BrokeOff, line_bytes}
-use Rattle.run_answers.specs.Wrote.{Wrote, of_output}
+use Rattle.run_answers.specs.Wrote.{Wrote, by_output}
 use Rattle.run_answers.specs.SoFar.{IsFront, TookSoFar}
 use Rattle.run_base.specs.Seen.{Sink, Outputs}
 use Rattle.run_answers.specs.Lines.{AreLines, IsLine}
 use Rattle.run_answers.specs.declared.stopping.Stop.{Stop}
 use Rattle.run_answers.specs.declared.stopping.Stop.TheVariants as stop
-use Rattle.run_answers.proofs.AnswerLemmas.{same_faults, wrote_nothing, wrote_behind, wrote_front, wrote_text}
+use Rattle.run_answers.proofs.AnswerLemmas.{same_faults}
+use Rattle.result_sink.proofs.WroteLemmas.{wrote_behind, wrote_front, wrote_nothing, wrote_text}
 use Rattle.run_answers.proofs.LineLemmas.{AreLines-none, AreLines-one, AreLines-append}
 
 -- a sink that shows what it showed took nothing
 put_none : {S : Type 0} (old new : Sink S) → new ≡ old → Adds old.written new.written []
 put_none {S} old new same = subst (λ (s : Sink S). Adds old.written s.written []) (sym same) (Adds-nothing old.written)
+
+-- want of memory as the output knows it: a front of a text was written
+wrote_otherwise : {S : Type 0} (text : List ℕ) (old new : Sink S) → Wrote old new text (Err stop.Memory) → Wrote old new text (Err stop.Notes)
+wrote_otherwise text old new w =
+    record { counts = w.counts; ok = tt; kept = tt; failed = λ e. absurd cc; front = w.front; short = λ e. absurd cc }
 
 module _ {A : Type 0} where
   -- ---- texts of statements, one behind another
@@ -119,7 +124,7 @@ module _ {A : Type 0} where
 
   -- a text before any statement
   pub answers_text : {O N : Type 0} (tally : Bool) (IsRight : ℕ → A → List ℕ → Type 0) (number : ℕ) (text : List A → List ℕ) (old new : Outputs O N) → new.notes ≡ old.notes
-      → Wrote old.out new.out (text []) {A = Unit {0}} (Ok tt) → Answers tally IsRight number [] text old new (Ok tt)
+      → Wrote old.out new.out (text []) (Ok tt) → Answers tally IsRight number [] text old new (Ok tt)
   answers_text tally IsRight number text old new same w = record {
     out = w;
     notes = record {
@@ -145,14 +150,14 @@ module _ {A : Type 0} where
   pub answers_nothing : {O N : Type 0} (tally : Bool) (IsRight : ℕ → A → List ℕ → Type 0) (number : ℕ) (text : List A → List ℕ) (old : Outputs O N) → text [] ≡ []
       → Answers tally IsRight number [] text old old (Ok tt)
   answers_nothing tally IsRight number text old e =
-      answers_text tally IsRight number text old old refl (wrote_text old.out old.out [] (text []) (Ok tt) (sym e) (wrote_nothing old.out))
+      answers_text tally IsRight number text old old refl (wrote_text [] (text []) (Ok tt) (sym e) (wrote_nothing old.out.written old.out.faults tt))
 
   -- one statement is finished
   pub answers_single : {O N : Type 0} (tally : Bool) (IsRight : ℕ → A → List ℕ → Type 0) (number : ℕ) (b : A) (text : List A → List ℕ) (one : List ℕ)
       (old new : Outputs O N) → text (b ∷ []) ≡ one → AnswersOne tally IsRight number b one old new (Ok tt)
       → Answers tally IsRight number (b ∷ []) text old new (Ok tt)
   answers_single tally IsRight number b text one old new e o =
-      let w : Wrote old.out new.out (text (b ∷ [])) {A = Unit {0}} (Ok tt) = wrote_text old.out new.out one (text (b ∷ [])) (Ok tt) (sym e) o.put.out in
+      let w : Wrote old.out new.out (text (b ∷ [])) (Ok tt) = wrote_text one (text (b ∷ [])) (Ok tt) (sym e) o.put.out in
       record {
         out = w;
         notes = record {
@@ -176,7 +181,7 @@ module _ {A : Type 0} where
       → AnswersOne tally IsRight number b one old new (Err y)
       → Answers tally IsRight number (b ∷ bs) text old new (Err y)
   answers_halted tally IsRight number b bs text one behind old new stop.Output e f o = record {
-    out = wrote_text old.out new.out (one ++ behind) (text (b ∷ bs)) (Err write.Failed) (sym f) (wrote_front old.out new.out one behind write.Failed o.put.out);
+    out = wrote_text (one ++ behind) (text (b ∷ bs)) (Err stop.Output) (sym f) (wrote_front one behind stop.Output o.put.out);
     notes = record {
       finished = [];
       left = b ∷ bs;
@@ -192,19 +197,19 @@ module _ {A : Type 0} where
     };
   }
   answers_halted tally IsRight number b bs text one behind old new stop.Memory e f o = record {
-    out = wrote_text old.out new.out (one ++ behind) (text (b ∷ bs)) (Err write.Memory) (sym f) (wrote_front old.out new.out one behind write.Memory o.put.out);
+    out = wrote_text (one ++ behind) (text (b ∷ bs)) (Err stop.Notes) (sym f) (wrote_front one behind stop.Notes (wrote_otherwise one old.out new.out o.put.out));
     notes = record {
       finished = [];
       left = b ∷ bs;
       split = refl;
       lines = [];
       are = AreLines-none tally IsRight number;
-      end' = record { put = put_none old.notes new.notes o.put.notes; counts = omega (arith, same_faults old.notes new.notes o.put.notes); took = took_part text b bs one old.out new.out e (o.put.short refl) };
+      end' = record { put = put_none old.notes new.notes o.put.notes; counts = omega (arith, same_faults old.notes new.notes o.put.notes); took = took_part text b bs one old.out new.out e (o.put.out.short refl) };
       quiet = λ q. o.put.notes;
     };
   }
   answers_halted tally IsRight number b bs text one behind old new stop.Notes e f o = record {
-    out = wrote_text old.out new.out (one ++ behind) (text (b ∷ bs)) (Err write.Memory) (sym f) (wrote_front old.out new.out one behind write.Memory o.put.out);
+    out = wrote_text (one ++ behind) (text (b ∷ bs)) (Err stop.Notes) (sym f) (wrote_front one behind stop.Notes o.put.out);
     notes = record {
       finished = [];
       left = b ∷ bs;
@@ -308,8 +313,8 @@ module _ {A : Type 0} where
       → Answers tally IsRight (number + length xs) ys behind mid new r
       → Answers tally IsRight number (xs ++ ys) text old new r
   answers_after tally IsRight number xs ys text before behind old mid new r law none a b = record {
-    out = wrote_text old.out new.out (before xs ++ behind ys) (text (xs ++ ys)) (of_output r) (sym (law ys))
-        (wrote_behind old.out mid.out new.out (before xs) (behind ys) (of_output r) a.out b.out);
+    out = wrote_text (before xs ++ behind ys) (text (xs ++ ys)) (by_output r) (sym (law ys))
+        (wrote_behind (before xs) (behind ys) (by_output r) a.out b.out);
     notes = tallied_after tally IsRight number xs ys text before behind old mid new r law none a b.notes;
   }
 
@@ -381,7 +386,7 @@ module _ {A : Type 0} where
 
   -- a heading before all, and then the texts of all
   pub answers_headed : {O N : Type 0} (tally : Bool) (IsRight : ℕ → A → List ℕ → Type 0) (items : List A) (heading : List ℕ) (behind : List A → List ℕ)
-      (old mid new : Outputs O N) (q r : Result (Unit {0}) Stop) → q ≡ Ok tt → behind [] ≡ [] → mid.notes ≡ old.notes → Wrote old.out mid.out heading (of_output q)
+      (old mid new : Outputs O N) (q r : Result (Unit {0}) Stop) → q ≡ Ok tt → behind [] ≡ [] → mid.notes ≡ old.notes → Wrote old.out mid.out heading q
       → Answers tally IsRight 1 items behind mid new r
       → Answers tally IsRight 1 items (λ bs. heading ++ behind bs) old new r
   answers_headed tally IsRight items heading behind old mid new q r e none same w more =
@@ -389,19 +394,19 @@ module _ {A : Type 0} where
       answers_after tally IsRight 1 [] items (λ bs. heading ++ behind bs) (λ bs. heading) behind old mid new r
       (λ zs. refl) none
       (answers_text tally IsRight 1 (λ bs. heading) old mid same
-      (subst (λ (x : Result (Unit {0}) Stop). Wrote old.out mid.out heading (of_output x)) e w))
+      (subst (λ (x : Result (Unit {0}) Stop). Wrote old.out mid.out heading x) e w))
       (subst (λ (n : ℕ). Answers tally IsRight n items behind mid new r) number more)
 
   pub answers_unheaded : {O N : Type 0} (tally : Bool) (IsRight : ℕ → A → List ℕ → Type 0) (items : List A) (heading : List ℕ) (behind : List A → List ℕ)
       (old new : Outputs O N) (r : Result (Unit {0}) Stop) (y : Stop) → r ≡ Err y → OnErr r (r ≡ Err stop.Output) → new.notes ≡ old.notes
-      → Wrote old.out new.out heading (of_output r) → Answers tally IsRight 1 items (λ bs. heading ++ behind bs) old new (Err y)
+      → Wrote old.out new.out heading r → Answers tally IsRight 1 items (λ bs. heading ++ behind bs) old new (Err y)
   answers_unheaded tally IsRight items heading behind old new (Ok x) y e h same w = absurd cc
   answers_unheaded tally IsRight items heading behind old new (Err z) y e h same w =
       let is : stop.Output ≡ y = cc in
-      let v : Wrote old.out new.out heading {A = Unit {0}} (Err write.Failed) =
-      subst (λ (q : Result (Unit {0}) Stop). Wrote old.out new.out heading (of_output q)) h w in
+      let v : Wrote old.out new.out heading (Err stop.Output) =
+      subst (λ (q : Result (Unit {0}) Stop). Wrote old.out new.out heading q) h w in
       subst (λ (s : Stop). Answers tally IsRight 1 items (λ bs. heading ++ behind bs) old new (Err s)) is (record {
-        out = wrote_front old.out new.out heading (behind items) write.Failed v;
+        out = wrote_front heading (behind items) stop.Output v;
         notes = record {
           finished = [];
           left = items;

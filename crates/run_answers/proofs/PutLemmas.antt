@@ -1,33 +1,29 @@
 -- For the proofs: texts that are put to the output, one behind another, and a line to the notes behind them.
 use Rattle.std.proofs.Common.{◌≡◌, ◌≢◌, ℕ, ◌+◌, ◌<◌, List, [], ◌∷◌, ◌++◌, length, take, drop, get_or, Option, Result, Ok, Err, refl, sym, ◌∙◌, ap, subst, arith}
-use Rattle.std.specs.Prelude.{OnErr, OnOk}
+use Rattle.std.specs.Prelude.{OnErr}
 use Rattle.std.specs.Result.{IsErrAnd}
 use Rattle.std.proofs.lemmas.List.{take_more, take-append-drop, length-take-le}
 use Rattle.std.proofs.lemmas.Result.{err_from_is_err_and}
-use Rattle.outside.specs.Faults.{NeverFalls, RoseOrFull}
-use Rattle.outside.specs.Told.{Adds, AddsFront}
-use Rattle.result_sink.specs.Ready.{AddsPart}
-use Rattle.result_sink.proofs.TextLemmas.{AddsPart-nothing, AddsPart-after, AddsPart-longer}
+use Rattle.result_sink.specs.Wrote as sink
 use Rattle.result_sink.specs.declared.fault.WriteFault.{WriteFault}
-use Rattle.result_sink.specs.declared.fault.WriteFault.TheVariants as write
+use Rattle.result_sink.proofs.WroteLemmas.{wrote_behind, wrote_front, wrote_none, wrote_nothing, wrote_whole}
 use Rattle.run_base.specs.Seen.{Sink, Outputs}
 use Rattle.run_answers.specs.Answering.{PutBoth, Lined}
 use Rattle.run_answers.specs.Wrote.{Put, Wrote, of_output}
 use Rattle.run_answers.specs.declared.stopping.Stop.{Stop}
 use Rattle.run_answers.specs.declared.stopping.Stop.TheVariants as stop
-use Rattle.run_answers.proofs.AnswerLemmas.{wrote_nothing, wrote_no_memory, wrote_behind, wrote_front}
 use Rattle.run_answers.proofs.ProgressLemmas.{AreTexts, texts_one, texts_append}
 use Rattle.run_answers.proofs.TallyLemmas.{put_line_behind, put_refused, put_wanting}
 
 -- ---- one text
 
 pub put_nothing : {S : Type 0} (s : Sink S) → Put [] s s (Ok tt)
-put_nothing s = record { out = wrote_nothing s; short = λ e. absurd cc; silent = λ e. cc }
+put_nothing s = record { out = wrote_nothing s.written s.faults tt; silent = λ e. cc }
 
 -- want of memory, before anything of a text was put
 pub put_unwritten : {S : Type 0} (text : List ℕ) (s : Sink S) → text ≢ [] → Put text s s (Err stop.Memory)
 put_unwritten text s some =
-    record { out = wrote_no_memory s text; short = λ e. AddsPart-nothing s.written text some; silent = λ e. cc }
+    record { out = wrote_none text s.written s.faults stop.Memory some (λ e. cc); silent = λ e. cc }
 
 -- the same of an equal text
 pub put_equal : {S : Type 0} (text other : List ℕ) (old new : Sink S) (r : Result (Unit {0}) Stop) → text ≡ other → Put text old new r
@@ -36,21 +32,29 @@ put_equal text other old new r e h = subst (λ (x : List ℕ). Put x old new r) 
 
 -- a text that only the output can refuse
 pub put_alone : {S : Type 0} (text : List ℕ) (old new : Sink S) (r : Result (Unit {0}) Stop) → OnErr r (r ≡ Err stop.Output)
-    → Wrote old new text (of_output r) → Put text old new r
-put_alone text old new (Ok x) h w = record { out = w; short = λ e. absurd cc; silent = λ e. cc }
-put_alone text old new (Err stop.Output) h w = record { out = w; short = λ e. absurd cc; silent = λ e. cc }
+    → Wrote old new text r → Put text old new r
+put_alone text old new (Ok x) h w = record { out = w; silent = λ e. cc }
+put_alone text old new (Err stop.Output) h w = record { out = w; silent = λ e. cc }
 put_alone text old new (Err stop.Notes) h w = absurd cc
 put_alone text old new (Err stop.Memory) h w = absurd cc
 
--- a text that was written so, by what it is then
+-- a text that was written so
+wrote_stopped : {S : Type 0} (text : List ℕ) (old new : Sink S) (r : Result (Unit {0}) Stop) → r ≢ Err stop.Notes
+    → sink.Wrote text old.written new.written old.faults new.faults (of_output r) → Wrote old new text r
+wrote_stopped text old new (Ok x) silent w = wrote_whole text x w.kept w.ok
+wrote_stopped text old new (Err stop.Output) silent w =
+    record { counts = w.counts; ok = tt; kept = tt; failed = λ e. w.failed refl; front = w.front; short = λ e. absurd cc }
+wrote_stopped text old new (Err stop.Memory) silent w =
+    record { counts = w.counts; ok = tt; kept = tt; failed = λ e. absurd cc; front = w.front; short = λ e. w.short refl }
+wrote_stopped text old new (Err stop.Notes) silent w = absurd (silent refl)
+
+-- and by what it is then
 pub put_written : {S : Type 0} (text other : List ℕ) (old new : Sink S) (written : Result (Unit {0}) WriteFault) (r : Result (Unit {0}) Stop)
-    → of_output r ≡ written → r ≢ Err stop.Notes → text ≡ other → NeverFalls old.faults new.faults → OnOk written (Adds old.written new.written text)
-    → (written ≡ Err write.Failed → RoseOrFull old.faults new.faults) → OnErr written (AddsFront old.written new.written text)
-    → (written ≡ Err write.Memory → AddsPart old.written new.written text) → OnOk written (new.faults ≡ old.faults) → Put other old new r
-put_written text other old new written r is silent same counts ok failed front short kept = put_equal text other old new r same record {
-  out = subst (λ (w : Result (Unit {0}) WriteFault). Wrote old new text w) (sym is)
-      (record { counts = counts; ok = ok; kept = kept; failed = failed; front = front });
-  short = λ e. short (sym is ∙ ap of_output e);
+    → of_output r ≡ written → r ≢ Err stop.Notes → text ≡ other → sink.Wrote text old.written new.written old.faults new.faults written
+    → Put other old new r
+put_written text other old new written r is silent same w = put_equal text other old new r same record {
+  out = wrote_stopped text old new r silent
+      (subst (λ (x : Result (Unit {0}) WriteFault). sink.Wrote text old.written new.written old.faults new.faults x) (sym is) w);
   silent = silent;
 }
 
@@ -66,24 +70,16 @@ put_through text old new r y h a =
 pub put_behind : {S : Type 0} (first second : List ℕ) (old mid new : Sink S) (q r : Result (Unit {0}) Stop) → q ≡ Ok tt → Put first old mid q
     → Put second mid new r → Put (first ++ second) old new r
 put_behind first second old mid new q r e a b = record {
-  out = wrote_behind old mid new first second (of_output r) w b.out;
-  short = λ f. AddsPart-after old.written mid.written new.written first second w.ok (b.short f);
+  out = wrote_behind first second r w b.out;
   silent = b.silent;
 }
   where
-    w : Wrote old mid first {A = Unit {0}} (Ok tt)
-    w = subst (λ (x : Result (Unit {0}) Stop). Wrote old mid first (of_output x)) e a.out
+    w : Wrote old mid first (Ok tt)
+    w = subst (λ (x : Result (Unit {0}) Stop). Wrote old mid first x) e a.out
 
 -- a text that wasn't put whole, where another would have come behind it
 front_of : {S : Type 0} (first second : List ℕ) (old new : Sink S) (y : Stop) → Put first old new (Err y) → Put (first ++ second) old new (Err y)
-front_of first second old new stop.Output a =
-    record { out = wrote_front old new first second write.Failed a.out; short = λ e. absurd cc; silent = λ e. cc }
-front_of first second old new stop.Memory a = record {
-  out = wrote_front old new first second write.Memory a.out;
-  short = λ e. AddsPart-longer old.written new.written first second (a.short refl);
-  silent = λ e. cc;
-}
-front_of first second old new stop.Notes a = absurd (a.silent refl)
+front_of first second old new y a = record { out = wrote_front first second y a.out; silent = a.silent }
 
 pub put_front : {S : Type 0} (first second : List ℕ) (old new : Sink S) (r : Result (Unit {0}) Stop) (y : Stop) → r ≡ Err y → Put first old new r
     → Put (first ++ second) old new (Err y)
@@ -133,14 +129,14 @@ module _ {A : Type 0} where
 pub both_put : {O N : Type 0} (text : List ℕ) (line : Option (List ℕ)) (old new : Outputs O N) (q r : Result (Unit {0}) Stop) → q ≡ Ok tt
     → Put text old.out new.out q → OnErr r (r ≡ Err stop.Notes) → Lined line old.notes new.notes r → PutBoth text line old new r
 both_put text line old new q r e a only l =
-    let w : Wrote old.out new.out text {A = Unit {0}} (Ok tt) =
-    subst (λ (x : Result (Unit {0}) Stop). Wrote old.out new.out text (of_output x)) e a.out in
+    let w : Wrote old.out new.out text (Ok tt) =
+    subst (λ (x : Result (Unit {0}) Stop). Wrote old.out new.out text x) e a.out in
     put_line_behind text line old new r w.kept w.ok only l
 
 both_halted : {O N : Type 0} (text : List ℕ) (line : Option (List ℕ)) (old new : Outputs O N) (y : Stop) → Put text old.out new.out (Err y)
     → new.notes ≡ old.notes → PutBoth text line old new (Err y)
 both_halted text line old new stop.Output a same = put_refused text line old new same a.out
-both_halted text line old new stop.Memory a same = put_wanting text line old new same a.out (a.short refl)
+both_halted text line old new stop.Memory a same = put_wanting text line old new same a.out
 both_halted text line old new stop.Notes a same = absurd (a.silent refl)
 
 pub both_stopped : {O N : Type 0} (text : List ℕ) (line : Option (List ℕ)) (old new : Outputs O N) (q : Result (Unit {0}) Stop) (y : Stop) → q ≡ Err y

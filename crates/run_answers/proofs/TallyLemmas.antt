@@ -1,5 +1,5 @@
 -- Lines of counts, and the answer of one statement with its line.
-use Rattle.std.proofs.Common.{◌≡◌, ◌≢◌, ℕ, ◌+◌, Bool, true, false, List, [], ◌∷◌, ◌++◌, length, map, Option, Some, None, Result, Ok, Err, refl, sym, ◌∙◌, ap, subst, arith, append-nil, append_assoc}
+use Rattle.std.proofs.Common.{◌≡◌, ◌≢◌, ℕ, Bool, true, false, List, [], ◌++◌, length, map, Option, Some, None, Result, Ok, Err, refl, sym, ◌∙◌, ap, subst, arith}
 use Rattle.std.specs.Prelude.{OnErr}
 use Rattle.std.specs.Result.{IsErrAnd}
 use Rattle.std.proofs.lemmas.List.{length-map}
@@ -11,19 +11,17 @@ use Rattle.bag_meaning.specs.declared.combo.Combo.{Combo}
 use Rattle.eddy_runs.specs.Recorded.{IsRecorded}
 use Rattle.eddy_core.specs.Answer.{as_mark}
 use Rattle.eddy_core.specs.declared.answered.LookedUp.{LookedUp}
-use Rattle.result_sink.specs.Ready.{AddsPart}
-use Rattle.result_sink.proofs.TextLemmas.{AddsPart-after}
+use Rattle.result_sink.proofs.WroteLemmas.{wrote_behind, wrote_front, wrote_none, wrote_whole}
 use Rattle.outside.specs.Told.{Adds}
-use Rattle.outside.proofs.Laws.{Adds-nothing, Adds-twice, AddsFront-whole}
-use Rattle.result_sink.specs.declared.fault.WriteFault.TheVariants as write
+use Rattle.outside.proofs.Laws.{Adds-twice, AddsFront-whole}
 use Rattle.run_answers.specs.Answering.{AnswersOne, PutBoth, IsLineFor, Lined, OnTold}
-use Rattle.run_answers.specs.Wrote.{Wrote, of_output}
+use Rattle.run_answers.specs.Wrote.{Wrote}
 use Rattle.run_base.specs.Items.{Item}
 use Rattle.run_base.specs.Seen.{Sink, Outputs}
 use Rattle.run_answers.specs.Tally.{IsTally, hits_told, line_of_counts}
 use Rattle.run_answers.specs.declared.stopping.Stop.{Stop}
 use Rattle.run_answers.specs.declared.stopping.Stop.TheVariants as stop
-use Rattle.run_answers.proofs.AnswerLemmas.{answer_permutes, wrote_no_memory, wrote_behind, wrote_front}
+use Rattle.run_answers.proofs.AnswerLemmas.{answer_permutes}
 
 -- what predicates give
 abbrev Gives : Type 0
@@ -69,10 +67,9 @@ pub put_line_behind : {O N : Type 0} (text : List ℕ) (line : Option (List ℕ)
     → new.out.faults ≡ old.out.faults → Adds old.out.written new.out.written text → OnErr r (r ≡ Err stop.Notes)
     → Lined line old.notes new.notes r → PutBoth text line old new r
 put_line_behind text line old new (Ok x) kept put only l = record {
-  out = record { counts = omega (arith, kept); ok = put; kept = kept; failed = λ e. absurd cc; front = tt };
+  out = wrote_whole text x kept put;
   whole = λ e. absurd cc;
   kept = λ e. kept;
-  short = λ e. absurd cc;
   notes = l;
 }
 put_line_behind text line old new (Err stop.Notes) kept put only l = record {
@@ -82,10 +79,10 @@ put_line_behind text line old new (Err stop.Notes) kept put only l = record {
     kept = tt;
     failed = λ e. absurd cc;
     front = AddsFront-whole old.out.written new.out.written text put;
+    short = λ e. absurd cc;
   };
   whole = λ e. put;
   kept = λ e. kept;
-  short = λ e. absurd cc;
   notes = l;
 }
 put_line_behind text line old new (Err stop.Output) kept put only l = absurd cc
@@ -93,14 +90,13 @@ put_line_behind text line old new (Err stop.Memory) kept put only l = absurd cc
 
 -- a text that the output didn't take
 pub put_refused : {O N : Type 0} (text : List ℕ) (line : Option (List ℕ)) (old new : Outputs O N) → new.notes ≡ old.notes
-    → Wrote old.out new.out text {A = Unit {0}} (Err write.Failed) → PutBoth text line old new (Err stop.Output)
-put_refused text line old new same w = record { out = w; whole = λ e. absurd cc; kept = λ e. absurd cc; short = λ e. absurd cc; notes = same }
+    → Wrote old.out new.out text (Err stop.Output) → PutBoth text line old new (Err stop.Output)
+put_refused text line old new same w = record { out = w; whole = λ e. absurd cc; kept = λ e. absurd cc; notes = same }
 
 -- a text of which not all was put, for want of memory
 pub put_wanting : {O N : Type 0} (text : List ℕ) (line : Option (List ℕ)) (old new : Outputs O N) → new.notes ≡ old.notes
-    → Wrote old.out new.out text {A = Unit {0}} (Err write.Memory) → AddsPart old.out.written new.out.written text
-    → PutBoth text line old new (Err stop.Memory)
-put_wanting text line old new same w part = record { out = w; whole = λ e. absurd cc; kept = λ e. absurd cc; short = λ e. part; notes = same }
+    → Wrote old.out new.out text (Err stop.Memory) → PutBoth text line old new (Err stop.Memory)
+put_wanting text line old new same w = record { out = w; whole = λ e. absurd cc; kept = λ e. absurd cc; notes = same }
 
 -- the same of an equal text
 pub put_text : {O N : Type 0} (text other : List ℕ) (line : Option (List ℕ)) (old new : Outputs O N) (r : Result (Unit {0}) Stop) → text ≡ other
@@ -127,31 +123,30 @@ pub one_unfound : {A O N : Type 0} (tally : Bool) (IsRight : ℕ → A → List 
 one_unfound tally IsRight number item text old some = record {
   line = None;
   right = tt;
-  put = put_wanting text None old old refl (wrote_no_memory old.out text) ([], text, refl, some, Adds-nothing old.out.written);
+  put = put_wanting text None old old refl (wrote_none text old.out.written old.out.faults stop.Memory some (λ e. cc));
 }
 
 -- a text before that of a statement: the output took it, or didn't
 pub one_behind : {A O N : Type 0} (tally : Bool) (IsRight : ℕ → A → List ℕ → Type 0) (number : ℕ) (item : A) (first second : List ℕ)
-    (old mid new : Outputs O N) (q r : Result (Unit {0}) Stop) → q ≡ Ok tt → mid.notes ≡ old.notes → Wrote old.out mid.out first (of_output q)
+    (old mid new : Outputs O N) (q r : Result (Unit {0}) Stop) → q ≡ Ok tt → mid.notes ≡ old.notes → Wrote old.out mid.out first q
     → AnswersOne tally IsRight number item second mid new r
     → AnswersOne tally IsRight number item (first ++ second) old new r
 one_behind {N = N} tally IsRight number item first second old mid new q r e same v a = record {
   line = a.line;
   right = a.right;
   put = record {
-    out = wrote_behind old.out mid.out new.out first second (of_output r) w a.put.out;
+    out = wrote_behind first second r w a.put.out;
     whole = λ f. Adds-twice old.out.written mid.out.written new.out.written first second w.ok (a.put.whole f);
     kept = λ f. a.put.kept f ∙ w.kept;
-    short = λ f. AddsPart-after old.out.written mid.out.written new.out.written first second w.ok (a.put.short f);
     notes = subst (λ (s : Sink N). Lined a.line s new.notes r) same a.put.notes;
   };
 }
   where
-    w : Wrote old.out mid.out first {A = Unit {0}} (Ok tt)
-    w = subst (λ (x : Result (Unit {0}) Stop). Wrote old.out mid.out first (of_output x)) e v
+    w : Wrote old.out mid.out first (Ok tt)
+    w = subst (λ (x : Result (Unit {0}) Stop). Wrote old.out mid.out first x) e v
 
 pub one_unwritten : {A O N : Type 0} (tally : Bool) (IsRight : ℕ → A → List ℕ → Type 0) (number : ℕ) (item : A) (first second : List ℕ) (old new : Outputs O N)
-    (r : Result (Unit {0}) Stop) (y : Stop) → r ≡ Err y → OnErr r (r ≡ Err stop.Output) → new.notes ≡ old.notes → Wrote old.out new.out first (of_output r)
+    (r : Result (Unit {0}) Stop) (y : Stop) → r ≡ Err y → OnErr r (r ≡ Err stop.Output) → new.notes ≡ old.notes → Wrote old.out new.out first r
     → AnswersOne tally IsRight number item (first ++ second) old new (Err y)
 one_unwritten tally IsRight number item first second old new (Ok x) y e h same w = absurd cc
 one_unwritten tally IsRight number item first second old new (Err z) y e h same w =
@@ -160,5 +155,5 @@ one_unwritten tally IsRight number item first second old new (Err z) y e h same 
       line = None;
       right = tt;
       put = put_refused (first ++ second) None old new same
-          (wrote_front old.out new.out first second write.Failed (subst (λ (q : Result (Unit {0}) Stop). Wrote old.out new.out first (of_output q)) h w));
+          (wrote_front first second stop.Output (subst (λ (q : Result (Unit {0}) Stop). Wrote old.out new.out first q) h w));
     })

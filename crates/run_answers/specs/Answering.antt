@@ -6,9 +6,7 @@ use Rattle.sq_value.specs.declared.value.Truth.{Truth}
 use Rattle.eddy_runs.specs.Complete.{IsBagOf}
 use Rattle.outside.specs.Faults.{NeverFalls, RoseOrFull}
 use Rattle.outside.specs.Told.{Adds}
-use Rattle.result_sink.specs.Ready.{AddsPart}
-use Rattle.result_sink.specs.declared.fault.WriteFault.TheVariants as write
-use Rattle.run_answers.specs.Wrote.{Wrote, of_output}
+use Rattle.run_answers.specs.Wrote.{Noted, Wrote, by_output}
 use Rattle.run_answers.specs.SoFar.{TookSoFar, AddsFrontBehind}
 use Rattle.run_base.specs.Items.{Item}
 use Rattle.run_base.specs.Seen.{Sink, Outputs}
@@ -67,7 +65,7 @@ pub record Tallied {A O N : Type 0} (tally : Bool) (IsRight : ℕ → A → List
 pub record Answers {A O N : Type 0} (tally : Bool) (IsRight : ℕ → A → List ℕ → Type 0) (number : ℕ)
     (items : List A) (text : List A → List ℕ) (old new : Outputs O N) (r : Result (Unit {0}) Stop)
     : Type 0 where
-  pub out : Wrote old.out new.out (text items) (of_output r)
+  pub out : Wrote old.out new.out (text items) (by_output r)
   pub notes : Tallied tally IsRight number items text old new r
 
 -- the bytes of a line that may be there
@@ -89,19 +87,18 @@ pub record IsFound (room : ℕ) (tally : Bool) (gives : ℕ → Value → Value 
 -- a line was put, or a front of it, or nothing
 abbrev pub Lined : {S : Type 0} → Option (List ℕ) → Sink S → Sink S → Result (Unit {0}) Stop → Type 0
 Lined line old new (Ok x) =
-    Wrote old new (line_bytes line) {A = Unit {0}} (Ok tt) × (new.faults ≡ old.faults) × (line ≡ None → new ≡ old)
+    Noted old new (line_bytes line) (Ok tt) × (new.faults ≡ old.faults) × (line ≡ None → new ≡ old)
 Lined line old new (Err stop.Notes) =
-    Wrote old new (line_bytes line) {A = Unit {0}} (Err write.Failed) × (line ≢ None)
+    Noted old new (line_bytes line) (Err stop.Notes) × (line ≢ None)
 Lined line old new (Err stop.Output) = new ≡ old
 Lined line old new (Err stop.Memory) = new ≡ old
 
 -- a text was put, and then a line: the text is whole where the line failed, and isn't where memory was wanting
 pub record PutBoth {O N : Type 0} (text : List ℕ) (line : Option (List ℕ)) (old new : Outputs O N)
     (r : Result (Unit {0}) Stop) : Type 0 where
-  pub out : Wrote old.out new.out text (of_output r)
+  pub out : Wrote old.out new.out text r
   pub whole : r ≡ Err stop.Notes → Adds old.out.written new.out.written text
   pub kept : r ≡ Err stop.Notes → new.out.faults ≡ old.out.faults
-  pub short : r ≡ Err stop.Memory → AddsPart old.out.written new.out.written text
   pub notes : Lined line old.notes new.notes r
 
 -- what holds where a line was put, or failed

@@ -6,10 +6,15 @@ use std::alloc::Global;
 /// What runs statements: the runtime that starts threads, the allocator, how the words want statements
 /// to be run, the predicates, and the gate that several workers call.
 pub struct Engine<'e, P, G, R> {
+    /// The runtime that starts threads.
     pub rt: &'e R,
+    /// The allocator.
     pub alloc: Global,
+    /// How statements are run.
     pub settings: &'e Settings,
+    /// The predicates that conditions call.
     pub functions: &'e P,
+    /// The gate that several workers call.
     pub gate: &'e G,
 }
 

@@ -15,12 +15,19 @@ use std::alloc::Global;
 /// then have one line.
 #[derive(Debug, Drop)]
 pub struct Settings {
+    /// The number of workers, 1 to 16.
     pub workers: u32,
+    /// The policy's name.
     pub policy: PolicyName,
+    /// The seed of the lottery.
     pub seed: u64,
+    /// The text of the route script.
     pub route: SqText,
+    /// The room of each worker's cache of predicates' answers, 0 to 4,096; 0 is none.
     pub cache: u32,
+    /// Whether a line of counts is wanted for each statement.
     pub tally: bool,
+    /// Whether all statements run together, which then have one line of counts.
     pub shared: bool,
 }
 

@@ -13,14 +13,14 @@ ghost use Rattle.run_base.specs.Items.{item_over};
 ghost use Rattle.run_base.specs.Runnable.{IsRunnable, IsShapeFor};
 ghost use Rattle.run_base.specs.Seen.{sink_seen};
 ghost use Rattle.run_answers.specs.Text.{bound_as, item_text};
-ghost use Rattle.run_answers.specs.Wrote.{Put, Wrote, of_output};
+ghost use Rattle.run_answers.specs.Wrote.{Put, Wrote};
 
 use crate::engine::Engine;
 use crate::stopping::{Stop, stopped};
 use bag_meaning::Combo;
 use group_sink::{Line, report, write_report};
 use outside::Sink;
-use result_sink::{in_order_by, write_answer_by};
+use result_sink::{par_in_order, par_write_answer};
 use sq_expr::{Block, Shape};
 use sq_value::{Memory, Predicates, Tables};
 use std::thread::Threads;
@@ -45,7 +45,7 @@ fn rows_in_order<P: Predicates, G, R: Threads + Sync>(
     ensures { IfOk result (λ sorted. map (rows_of_combo block.now) sorted.items ≡ answer P.gives block.now tables.now) }
 {
     let threads = engine.settings.workers as usize;
-    in_order_by(engine.rt, threads, block, tables, combos)
+    par_in_order(engine.rt, threads, block, tables, combos)
 }
 
 // Writes the rows of an answer by its matches, in order, by as many threads as there are workers.
@@ -69,7 +69,7 @@ fn write_rows<O: Sink, P: Predicates, G, R: Threads + Sync>(
         return Err(Stop::Memory);
     };
     let combos = combos.as_slice();
-    let written = write_answer_by(rt, alloc, threads, block, tables, combos, out);
+    let written = par_write_answer(rt, alloc, threads, block, tables, combos, out);
     stopped(written)
 }
 
@@ -146,7 +146,7 @@ pub(crate) fn write_text<O: Sink, P: Predicates, G, R: Threads + Sync>(
 /// `Output`: the output's count of faults rose.
 pub(crate) fn put_empty_line<O: Sink>(out: &mut O) -> Result<(), Stop>
     ensures wrote { Wrote (sink_seen out.old (O.written out.old) (O.faults out.old))
-        (sink_seen out.new (O.written out.new) (O.faults out.new)) (10 ∷ []) (of_output result) }
+        (sink_seen out.new (O.written out.new) (O.faults out.new)) (10 ∷ []) result }
     ensures output { OnErr result (result ≡ Err Stop.Output) }
 {
     match out.put(b"\n") {

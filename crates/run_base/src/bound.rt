@@ -6,6 +6,8 @@ use sq_expr::{Block, Shape};
 /// what is made of them.
 #[derive(Drop)]
 pub struct Bound {
+    /// The block of its matches.
     pub block: Block,
+    /// What is made of the matches by groups, DISTINCT or LIMIT; None where each match is a row of the answer.
     pub shape: Option<Shape>,
 }

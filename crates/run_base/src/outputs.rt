@@ -6,7 +6,9 @@ use std::marker::Model;
 /// The output, for answers, and the notes, for lines of counts and refusals.
 #[derive(Drop)]
 pub struct Outputs<O: Sink, N: Sink> {
+    /// The output: answers alone.
     pub out: O,
+    /// The notes: lines of counts, and of refusals.
     pub notes: N,
 }
 

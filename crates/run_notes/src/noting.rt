@@ -2,7 +2,6 @@
 
 ghost use Rattle.std.specs.Prelude.{◌≡◌, ◌⊎◌, ◌++◌, [], IfOk, codes, map};
 ghost use Rattle.std.specs.String.{string_bytes};
-ghost use Rattle.sq_bind.specs.Fault.{place_of};
 ghost use Rattle.sq_parse.specs.Fault.{fault_place};
 ghost use Rattle.run_base.specs.Seen.{sink_seen};
 ghost use Rattle.run_notes.specs.Note as spec;
@@ -155,28 +154,6 @@ fn bind_text(fault: BindFault) -> &'static str
     }
 }
 
-fn bind_place(fault: BindFault) -> u32
-    ensures { result ≡ place_of fault }
-{
-    match fault {
-        BindFault::UnknownTable { at }
-        | BindFault::RepeatedAlias { at }
-        | BindFault::UnknownAlias { at }
-        | BindFault::UnknownColumn { at }
-        | BindFault::AmbiguousColumn { at }
-        | BindFault::TypeMismatch { at }
-        | BindFault::UnknownFunction { at }
-        | BindFault::WrongArguments { at }
-        | BindFault::TooManyAliases { at }
-        | BindFault::TooManyConjuncts { at }
-        | BindFault::TooManyTerms { at }
-        | BindFault::NotGrouped { at }
-        | BindFault::NotSelected { at } => at,
-        BindFault::Unreachable { alias } => u32::from(alias),
-        BindFault::Memory => 0,
-    }
-}
-
 // Some words behind others, and a place.
 fn at_byte(alloc: Global, front: &str, what: &str, at: u32) -> Result<String, AllocError>
     ensures { IfOk result (λ text. string_bytes text ≡ front.now ++ spec.at_byte what.now at) }
@@ -192,7 +169,7 @@ fn bind_note(alloc: Global, fault: BindFault) -> Result<String, AllocError>
             let number = u32::from(alias) + 1;
             format!(in alloc; "alias {number} is unreachable")
         }
-        _ => at_byte(alloc, "", bind_text(fault), bind_place(fault)),
+        _ => at_byte(alloc, "", bind_text(fault), fault.place()),
     }
 }
 
@@ -278,7 +255,7 @@ fn limit_note(
         LimitOf::Bind {
             statement: _,
             fault,
-        } => at_byte(alloc, "limit: ", bind_text(fault), bind_place(fault)),
+        } => at_byte(alloc, "limit: ", bind_text(fault), fault.place()),
         LimitOf::Keys { remote } => remote_note(alloc, remotes, "limit: keys of ", remote, ""),
         LimitOf::Rows { remote } => remote_note(alloc, remotes, "limit: rows of ", remote, ""),
     }

@@ -32,7 +32,9 @@ use table_csv::{TableFault, read_table};
 /// that the remote is looked up by.
 #[derive(Drop)]
 pub struct Heading {
+    /// The table of the remote, which has no rows.
     pub table: Table,
+    /// The place of the key column, from 0.
     pub column: u32,
 }
 

@@ -8,7 +8,10 @@ use sqlite_items::Items;
 /// among these tables, which have no rows.
 #[derive(Drop)]
 pub struct Plan {
+    /// The statements, bound, in order.
     pub statements: Items<Bound>,
+    /// The tables, by name.
     pub catalogue: Catalogue,
+    /// The remotes among the tables, which have no rows.
     pub remotes: Items<Remote>,
 }

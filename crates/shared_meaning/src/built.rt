@@ -4,6 +4,8 @@
 /// aliases that use the table.
 #[derive(Clone, Copy, Debug, PartialEq, Eq)]
 pub struct TableBuilt {
+    /// The number of the table.
     pub table: u32,
+    /// The number of the row in it.
     pub row: u32,
 }

@@ -16,7 +16,7 @@ ghost use Rattle.eddy_meaning.specs.Entries.{entries_of, rows_before};
 ghost use Rattle.eddy_meaning.specs.Route.{IsLegalSelect, IsLegalProbe, came_of_select, probed, conjuncts_of};
 ghost use Rattle.eddy_meaning.specs.Tuple.{Tuple};
 ghost use Rattle.eddy_meaning.specs.Shared.{block_log};
-ghost use Rattle.eddy_workers.specs.View.{View, Extends, IsLonger};
+ghost use Rattle.worker_meaning.specs.View.{View, Extends, IsLonger};
 ghost use Rattle.shared_meaning.specs.Closed.{Done, HaveDrawn, IsWholeLog, AreSettledFor, IsFoundFor, IsLatest};
 ghost use Rattle.shared_meaning.specs.Places.{IsPair, place_at, placed_entry, stamped_entry};
 ghost use Rattle.shared_meaning.specs.Settled.{IsScannedAlone, IsSettledFor, made_of};

@@ -10,6 +10,7 @@ use crate::running::figures_for;
 use crate::showing::Shown;
 use command_line::{Command, PolicyName, TableWord};
 use eddy_picture::{Scope, push_svg, svg_file, text_of};
+use eddy_query::Fitting;
 use outside::{Folder, Sink};
 use route_policy::{AnyPolicy, Greedy, Lottery, Pressure, RouteScript};
 use run_base::Bound;
@@ -77,7 +78,8 @@ fn push_picture<F: Predicates>(
     let (Some(first), Some(second)) = (policy_of(command), policy_of(command)) else {
         return Err(Refusal::Words);
     };
-    let figures = figures_for(alloc, number, block, tables, first, second, functions)?;
+    let query = Fitting::new(block, tables, functions);
+    let figures = figures_for(alloc, number, &query, first, second)?;
     let labels = labels_of(alloc, block, names)?;
     let scope = Scope {
         block,

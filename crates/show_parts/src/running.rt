@@ -1,16 +1,13 @@
 //! A run of a statement, counted.
 
-ghost use Rattle.sq_expr.specs.Fits.{IsFit};
-ghost use Rattle.sq_expr.specs.Reach.{IsReachable};
-
 use crate::refusal::Refusal;
 use bag_meaning::Built;
 use eddy_core::run_one;
 use eddy_picture::{Figures, figures_of};
+use eddy_query::Fitting;
 use route_counts::Counter;
 use route_policy::{AnyPolicy, Policy};
-use sq_expr::Block;
-use sq_value::{Predicates, Tables};
+use sq_value::Predicates;
 use std::alloc::{AllocError, Global};
 
 // How many rows were built of each of so many aliases.
@@ -26,40 +23,32 @@ fn built_of(alloc: Global, aliases: usize, log: &[Built]) -> Result<Vec<usize>, 
     Ok(counts)
 }
 
-// How many routings a run of a block has.
+// How many routings a run of a query has.
 fn routings_of<F: Predicates>(
     alloc: Global,
-    block: &Block,
-    tables: &Tables,
+    query: &Fitting<'_, F>,
     policy: AnyPolicy,
-    functions: &F,
-) -> Result<u64, Refusal>
-    requires fits { IsFit (F.kinds_of functions.now) tables.now block.now }
-    requires reachable { IsReachable block.now }
-{
+) -> Result<u64, Refusal> {
     let mut counter = Counter::new(alloc, policy, 1)?;
-    let _answered = run_one(alloc, block, tables, &mut counter, functions)?;
+    // (what it answers is not asked for here)
+    let _answered = run_one(alloc, query, &mut counter)?;
     Ok(counter.asked())
 }
 
-/// The figures of a run of a block, which is run once to know how long it is, and once to be counted.
+/// The figures of a run of a query, which is run once to know how long it is, and once to be counted.
 pub(crate) fn figures_for<F: Predicates>(
     alloc: Global,
     number: usize,
-    block: &Block,
-    tables: &Tables,
+    query: &Fitting<'_, F>,
     first: AnyPolicy,
     second: AnyPolicy,
-    functions: &F,
-) -> Result<Figures, Refusal>
-    requires fits { IsFit (F.kinds_of functions.now) tables.now block.now }
-    requires reachable { IsReachable block.now }
-{
-    let width = routings_of(alloc, block, tables, first, functions)? / 10 + 1;
+) -> Result<Figures, Refusal> {
+    let width = routings_of(alloc, query, first)? / 10 + 1;
     let mut counter = Counter::new(alloc, second, width)?;
-    let answered = run_one(alloc, block, tables, &mut counter, functions)?;
+    let answered = run_one(alloc, query, &mut counter)?;
     let rows = figures_of(alloc, &counter)?;
-    let built = built_of(alloc, block.aliases.len(), answered.built.as_slice())?;
+    let aliases = query.block().aliases.len();
+    let built = built_of(alloc, aliases, answered.built.as_slice())?;
     let hops = answered.most_hops;
     let looked = answered.looked.len();
     Ok(Figures {

@@ -16,7 +16,9 @@ use std::alloc::Global;
 /// What is shown: a text, and pictures as SVG.
 #[derive(Drop)]
 pub struct Shown {
+    /// The text.
     pub text: String,
+    /// The pictures, where a file for them is given.
     pub svg: Option<String>,
 }
 

@@ -16,8 +16,11 @@ pub enum What {
 /// What is to be shown, the file that the pictures are written to as SVG, and the other words, which are eddyql's.
 #[derive(Clone, Copy, Debug)]
 pub struct Asked<'w> {
+    /// What is to be shown.
     pub what: What,
+    /// The file that the pictures are written to as SVG, where one is given.
     pub svg: Option<&'w str>,
+    /// The other words, which are eddyql's.
     pub words: &'w [String],
 }
 

@@ -18,6 +18,7 @@ fn with_columns(table: &Table) -> &Table
     ensures same { result.now ≡ table.now }
     ensures some { 0 < length result.now.columns }
 {
+    // For the proof alone.
     let _columns = table.columns();
     table
 }

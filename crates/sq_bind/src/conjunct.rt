@@ -18,7 +18,9 @@ use std::alloc::Global;
 /// A condition, and the place of its first operand or function name.
 #[derive(Debug, Drop)]
 pub struct Placed {
+    /// The place of its first operand or function name, in bytes from 0.
     pub at: u32,
+    /// The condition.
     pub cond: Cond,
 }
 

@@ -49,25 +49,29 @@ impl From<Memory> for BindFault {
     }
 }
 
-fn place_of(fault: BindFault) -> u32
-    ensures { result ≡ spec.place_of fault }
-{
-    match fault {
-        BindFault::UnknownTable { at }
-        | BindFault::RepeatedAlias { at }
-        | BindFault::UnknownAlias { at }
-        | BindFault::UnknownColumn { at }
-        | BindFault::AmbiguousColumn { at }
-        | BindFault::TypeMismatch { at }
-        | BindFault::UnknownFunction { at }
-        | BindFault::WrongArguments { at }
-        | BindFault::TooManyAliases { at }
-        | BindFault::TooManyConjuncts { at }
-        | BindFault::TooManyTerms { at }
-        | BindFault::NotGrouped { at }
-        | BindFault::NotSelected { at } => at,
-        BindFault::Unreachable { alias } => u32::from(alias),
-        BindFault::Memory => 0,
+impl BindFault {
+    /// Where the fault is: the place of its first token in the text, in bytes from 0, or of an alias that isn't reached
+    /// its number; 0 for want of memory.
+    pub fn place(self) -> u32
+        ensures { result ≡ spec.place_of self }
+    {
+        match self {
+            BindFault::UnknownTable { at }
+            | BindFault::RepeatedAlias { at }
+            | BindFault::UnknownAlias { at }
+            | BindFault::UnknownColumn { at }
+            | BindFault::AmbiguousColumn { at }
+            | BindFault::TypeMismatch { at }
+            | BindFault::UnknownFunction { at }
+            | BindFault::WrongArguments { at }
+            | BindFault::TooManyAliases { at }
+            | BindFault::TooManyConjuncts { at }
+            | BindFault::TooManyTerms { at }
+            | BindFault::NotGrouped { at }
+            | BindFault::NotSelected { at } => at,
+            BindFault::Unreachable { alias } => u32::from(alias),
+            BindFault::Memory => 0,
+        }
     }
 }
 
@@ -96,8 +100,8 @@ fn number_of(fault: BindFault) -> u8
 fn is_before(fault: BindFault, other: BindFault) -> bool
     ensures { result ≡ spec.is_before fault other }
 {
-    place_of(fault) < place_of(other)
-        || (place_of(fault) == place_of(other) && number_of(fault) < number_of(other))
+    fault.place() < other.place()
+        || (fault.place() == other.place() && number_of(fault) < number_of(other))
 }
 
 /// The one of two faults that comes first in the script, and at one place the one with the lower number.

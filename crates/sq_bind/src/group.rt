@@ -10,9 +10,9 @@ use crate::columns::Grouping;
 use crate::fault::{BindFault, sooner};
 use crate::operand::column_fault;
 use crate::select::{cells_of, item_cells};
-use crate::visible::{SeenAlias, place_of, resolve};
+use crate::visible::{SeenAlias, resolve};
 use sq_expr::{Cell, ColumnOf};
-use sq_parse::{ColRef, Item, Items as Selected, Source, Statement, is_grouped};
+use sq_parse::{ColRef, Item, Items as Selected, Source, Statement, column_place, is_grouped};
 use sq_value::Memory;
 use std::alloc::Global;
 
@@ -96,7 +96,7 @@ fn item_place(item: &Item) -> u32
 {
     match item {
         Item::AllOf(name) => name.at,
-        Item::Col(column, _) => place_of(column),
+        Item::Col(column, _) => column_place(column),
         Item::Agg { at, .. } => *at,
     }
 }

@@ -11,9 +11,9 @@ ghost use Rattle.sq_bind.specs.Compared as compared;
 ghost use Rattle.sq_expr.specs.Fits.{class_of};
 
 use crate::fault::{BindFault, sooner};
-use crate::visible::{Resolved, SeenAlias, place_of, resolve};
+use crate::visible::{Resolved, SeenAlias, resolve};
 use sq_expr::{Arg, ColumnOf, Side, Term};
-use sq_parse::{ColRef, Operand, RawTerm};
+use sq_parse::{ColRef, Operand, RawTerm, column_place};
 use sq_value::{ColType, Memory, SqText, Value};
 use sqlite_items::Items;
 use std::alloc::Global;
@@ -76,7 +76,7 @@ fn term_fault(aliases: &[SeenAlias<'_>], term: &RawTerm) -> Option<BindFault>
     ensures { result ≡ first_of (spec.term_faults (map seen aliases.now) term.now.column) }
 {
     match &term.column {
-        Some(column) => number_fault(place_of(column), resolve(aliases, column)),
+        Some(column) => number_fault(column_place(column), resolve(aliases, column)),
         None => None,
     }
 }

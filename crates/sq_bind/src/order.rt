@@ -16,9 +16,9 @@ ghost use Rattle.sq_bind.specs.Seen as found;
 use crate::columns::{Grouping, ShownCells};
 use crate::fault::{BindFault, sooner};
 use crate::output::{Meanings, Meant, meaning};
-use crate::visible::{SeenAlias, place_of, resolve};
+use crate::visible::{SeenAlias, resolve};
 use sq_expr::{ColumnOf, ShapeOrder, SortOn};
-use sq_parse::{ColRef, OrderItem};
+use sq_parse::{ColRef, OrderItem, column_place};
 use sq_value::Memory;
 use sqlite_items::Items;
 use std::alloc::Global;
@@ -57,7 +57,7 @@ fn named_column(
         (spec.candidates cells None column.now.column.text) }
 {
     match meaning(names, name) {
-        Some(meant) => told(place_of(column), meant),
+        Some(meant) => told(column_place(column), meant),
         None => resolved_column(aliases, column),
     }
 }
@@ -83,9 +83,13 @@ fn order_on(
 /// a grouped one those of GROUP BY.
 #[derive(Clone, Copy)]
 pub struct Sortable<'a> {
+    /// Whether the statement is DISTINCT.
     pub distinct: bool,
+    /// Whether it is grouped.
     pub grouped: bool,
+    /// The columns of GROUP BY.
     pub keys: &'a Grouping,
+    /// The columns that its cells show.
     pub cells: &'a ShownCells,
 }
 
@@ -125,7 +129,7 @@ fn key_fault(
 {
     let name = key.column.column.text.as_str().to_ascii_lowercase(alloc)?;
     let on = order_on(aliases, names, &key.column, name.as_str());
-    Ok(order_fault(by, place_of(&key.column), on))
+    Ok(order_fault(by, column_place(&key.column), on))
 }
 
 /// The first fault of ORDER BY, where the names of the cells are known.

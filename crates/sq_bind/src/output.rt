@@ -15,9 +15,13 @@ use std::collections::BTreeMap;
 /// What the cells of one name mean: the first of them by its place, and whether all show what it shows.
 #[derive(Clone, Copy, Debug)]
 pub struct Meant {
+    /// The place of the first cell of the name, from 0.
     pub place: u32,
+    /// The set function that it shows, if it shows one.
     pub agg: Option<AggKind>,
+    /// The column that it shows, or that its set function takes.
     pub column: ColumnOf,
+    /// Whether all cells of the name show the same.
     pub is_one: bool,
 }
 

@@ -10,9 +10,9 @@ ghost use Rattle.sq_bind.specs.Seen.{seen};
 
 use crate::fault::{BindFault, sooner};
 use crate::operand::{column_fault, number_fault};
-use crate::visible::{SeenAlias, called, place_of, resolve};
+use crate::visible::{SeenAlias, called, resolve};
 use sq_expr::{AggKind, Cell, ColumnOf};
-use sq_parse::{ColRef, Item, Items as Selected, Name};
+use sq_parse::{ColRef, Item, Items as Selected, Name, column_place};
 use sq_value::{Column, Memory, SqText};
 use std::alloc::Global;
 
@@ -317,7 +317,7 @@ fn summed_fault(aliases: &[SeenAlias<'_>], kind: AggKind, column: &ColRef) -> Op
         (meant (map seen aliases.now) column.now)) }
 {
     match kind {
-        AggKind::Sum => number_fault(place_of(column), resolve(aliases, column)),
+        AggKind::Sum => number_fault(column_place(column), resolve(aliases, column)),
         AggKind::CountAll | AggKind::Count | AggKind::Min | AggKind::Max => {
             column_fault(aliases, column)
         }

@@ -11,21 +11,26 @@ ghost use Rattle.sq_bind.specs.Seen.{seen, tally, both};
 
 use crate::fault::BindFault;
 use sq_expr::ColumnOf;
-use sq_parse::ColRef;
+use sq_parse::{ColRef, column_place};
 use sq_value::{ColType, Column, Table, same_name};
 
 /// An alias that a part of a statement sees: its number, its name and its table.
 #[derive(Clone, Copy, Debug)]
 pub struct SeenAlias<'t> {
+    /// Its number, from 0.
     pub number: u8,
+    /// Its name.
     pub name: &'t str,
+    /// Its table.
     pub table: &'t Table,
 }
 
 /// A column that a name means, and its type.
 #[derive(Clone, Copy, Debug)]
 pub struct Resolved {
+    /// The column.
     pub column: ColumnOf,
+    /// The type of its values.
     pub kind: ColType,
 }
 
@@ -121,16 +126,6 @@ pub fn called<'a, 't>(aliases: &'a [SeenAlias<'t>], name: &str) -> Option<&'a Se
     None
 }
 
-// The place of a column's first token.
-pub fn place_of(column: &ColRef) -> u32
-    ensures { result ≡ tree.column_place column.now }
-{
-    match &column.alias {
-        Some(alias) => alias.at,
-        None => column.column.at,
-    }
-}
-
 fn meant_in(
     aliases: &[SeenAlias<'_>],
     at: u32,
@@ -155,7 +150,7 @@ fn meant_in(
 pub fn resolve(aliases: &[SeenAlias<'_>], column: &ColRef) -> Result<Resolved, BindFault>
     ensures { result ≡ spec.meant (map seen aliases.now) column.now }
 {
-    let at = place_of(column);
+    let at = column_place(column);
     let name = column.column.text.as_str();
     match &column.alias {
         Some(alias) => meant_in(aliases, at, alias.text.as_str(), name),

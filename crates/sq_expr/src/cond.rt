@@ -12,14 +12,18 @@ use sqlite_items::{Boxed, Items};
 /// A column of an alias.
 #[derive(Clone, Copy, Debug, PartialEq, Eq)]
 pub struct ColumnOf {
+    /// The number of the alias.
     pub alias: u8,
+    /// The column's place in the alias's table, from 0.
     pub column: u32,
 }
 
 /// A term of a sum: an integer, or an integer factor times an INTEGER or DECIMAL column.
 #[derive(Clone, Copy, Debug, PartialEq, Eq)]
 pub struct Term {
+    /// The integer.
     pub factor: i64,
+    /// The column that it multiplies; None where the term is the integer alone.
     pub column: Option<ColumnOf>,
 }
 
@@ -56,9 +60,13 @@ pub enum Cond {
 /// `uses[a]` of `tables`, and its row there is `rows[a]`.
 #[derive(Clone, Copy, Debug)]
 pub struct Chosen<'t> {
+    /// The tables.
     pub tables: &'t Tables,
+    /// The number of each alias's table, by the alias's number.
     pub uses: [u32; 12],
+    /// The row of each alias in that table, by the alias's number.
     pub rows: [u32; 12],
+    /// The aliases that have a row, by bits.
     pub span: u16,
 }
 

@@ -18,8 +18,11 @@ pub enum AggKind {
 /// column's value at the first member of the line's group. `CountAll` has column 0 of alias 0.
 #[derive(Debug, Drop)]
 pub struct Cell {
+    /// The set function, if it is one.
     pub agg: Option<AggKind>,
+    /// The column that it shows, or that its set function takes.
     pub column: ColumnOf,
+    /// Its name in the heading.
     pub name: SqText,
 }
 
@@ -33,7 +36,9 @@ pub enum SortOn {
 /// A key of the ORDER BY clause of a shaped statement.
 #[derive(Clone, Copy, Debug)]
 pub struct ShapeOrder {
+    /// What it sorts by.
     pub on: SortOn,
+    /// How that is sorted.
     pub way: SortWay,
 }
 
@@ -43,10 +48,16 @@ pub struct ShapeOrder {
 /// It is grouped where the statement has GROUP BY or a set function; else each match is a line.
 #[derive(Debug, Drop)]
 pub struct Shape {
+    /// Whether matches are put into groups.
     pub grouped: bool,
+    /// The columns of GROUP BY.
     pub keys: Items<ColumnOf>,
+    /// The cells of a line, in order.
     pub cells: Items<Cell>,
+    /// The keys of ORDER BY, the first of most weight.
     pub order: Items<ShapeOrder>,
+    /// Whether equal lines are told once.
     pub distinct: bool,
+    /// The most lines that are told, if LIMIT says.
     pub limit: Option<u64>,
 }

@@ -13,6 +13,7 @@ mod statement;
 mod stop;
 mod tree;
 
+pub use operand::column_place;
 pub use parser::{ParseFault, as_read, one_reading, one_tree, parse};
 pub use shaped::{is_grouped, is_shaped};
 pub use sq_token::{Span, Token, TokenKind, tokens};

@@ -65,7 +65,8 @@ fn number_led(alloc: Global, tokens: &mut Cursor<'_>) -> Result<RawTerm, Stop>
     })
 }
 
-fn column_place(column: &ColRef) -> u32
+/// The place of a column's first token.
+pub fn column_place(column: &ColRef) -> u32
     ensures { result ≡ tree.column_place column.now }
 {
     match &column.alias {

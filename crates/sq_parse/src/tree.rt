@@ -7,14 +7,18 @@ use sqlite_items::{Boxed, Items as List};
 /// A name as it is written, without the quotes of a delimited one, and the place of its first byte.
 #[derive(Debug, Drop)]
 pub struct Name {
+    /// The name, without quotes.
     pub text: SqText,
+    /// The place of its first byte, from 0.
     pub at: u32,
 }
 
 /// A column, by its name and, where one is written, its alias.
 #[derive(Debug, Drop)]
 pub struct ColRef {
+    /// The alias, where one is written.
     pub alias: Option<Name>,
+    /// The column's name.
     pub column: Name,
 }
 
@@ -43,42 +47,59 @@ pub enum Item {
 /// under which it was joined.
 #[derive(Debug, Drop)]
 pub struct Source {
+    /// The table's name.
     pub table: Name,
+    /// The alias, or the table's name where none is written.
     pub alias: Name,
+    /// The condition of its JOIN, if it was joined so.
     pub on: Option<Tree>,
 }
 
 /// A column of ORDER BY, and how it is sorted.
 #[derive(Debug, Drop)]
 pub struct OrderItem {
+    /// The column.
     pub column: ColRef,
+    /// How it is sorted.
     pub way: SortWay,
 }
 
 /// A SELECT statement. `distinct` stands for DISTINCT, `groups` for the columns of GROUP BY, and `limit` for LIMIT.
 #[derive(Debug, Drop)]
 pub struct Statement {
+    /// Whether DISTINCT is written.
     pub distinct: bool,
+    /// What SELECT lists.
     pub items: Items,
+    /// The tables of FROM, in order.
     pub sources: List<Source>,
+    /// The condition of WHERE, if there is one.
     pub condition: Option<Tree>,
+    /// The columns of GROUP BY.
     pub groups: List<ColRef>,
+    /// The columns of ORDER BY.
     pub order: List<OrderItem>,
+    /// The number of LIMIT, if there is one.
     pub limit: Option<u64>,
 }
 
 /// A script: 1 to 64 statements, in order.
 #[derive(Debug, Drop)]
 pub struct Script {
+    /// The statements, in order.
     pub statements: List<Statement>,
 }
 
 /// A term of a sum: a number, a column, or their product. `at` is the place behind its sign.
 #[derive(Debug, Drop)]
 pub struct RawTerm {
+    /// The place behind its sign, in bytes from 0.
     pub at: u32,
+    /// Whether it is taken away.
     pub negative: bool,
+    /// Its number, if it has one.
     pub number: Option<i64>,
+    /// Its column, if it has one.
     pub column: Option<ColRef>,
 }
 

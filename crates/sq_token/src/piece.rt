@@ -11,10 +11,15 @@ use crate::form::{Form, front};
 /// it. What is no token ends a text, so nothing is behind it.
 #[derive(Clone, Copy)]
 pub struct Drawn<'a> {
+    /// Its place, in bytes from 0.
     pub at: u32,
+    /// What it is.
     pub form: Form,
+    /// Its length in bytes.
     pub length: usize,
+    /// The text from it on.
     pub text: &'a str,
+    /// The text behind it.
     pub rest: &'a str,
 }
 

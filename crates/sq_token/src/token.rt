@@ -16,7 +16,9 @@ use std::alloc::Global;
 /// Where a token stands in its text: from the byte `from` up to, and without, the byte `to`.
 #[derive(Clone, Copy, Debug, PartialEq, Eq)]
 pub struct Span {
+    /// Its first byte, from 0.
     pub from: u32,
+    /// The byte behind its last.
     pub to: u32,
 }
 
@@ -40,7 +42,9 @@ pub enum TokenKind {
 /// A token, with its place.
 #[derive(Debug, Drop)]
 pub struct Token {
+    /// Its place.
     pub span: Span,
+    /// What it is.
     pub kind: TokenKind,
 }
 

@@ -6,7 +6,9 @@ ghost use Rattle.sq_value.specs.Rank as spec;
 /// one counts as 6.
 #[derive(Clone, Copy, Debug, PartialEq, Eq)]
 pub struct Dec {
+    /// The number times 10 to the power of the scale.
     pub units: i64,
+    /// How many digits stand behind the point, 0 to 6.
     pub scale: u8,
 }
 

@@ -6,7 +6,9 @@ use crate::value::{ColType, Truth, Value};
 /// The types of a registered predicate's two arguments.
 #[derive(Clone, Copy, Debug, PartialEq, Eq)]
 pub struct Kinds {
+    /// The type of the first argument.
     pub first: ColType,
+    /// The type of the second argument.
     pub second: ColType,
 }
 

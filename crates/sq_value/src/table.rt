@@ -10,7 +10,9 @@ use std::marker::Model;
 /// A column of a table: its name, as it was written, and the type of its values.
 #[derive(Debug, Drop)]
 pub struct Column {
+    /// Its name, as it was written.
     pub name: SqText,
+    /// The type of its values.
     pub kind: ColType,
 }
 

@@ -50,7 +50,9 @@ pub enum Cmp {
 /// nulls stand where `nulls_first` says.
 #[derive(Clone, Copy, Debug, PartialEq, Eq)]
 pub struct SortWay {
+    /// Whether greater values come first.
     pub descending: bool,
+    /// Whether nulls come before all values.
     pub nulls_first: bool,
 }
 

@@ -41,14 +41,19 @@ pub struct Board<K: Kept, T: Stamped + Copy> {
 /// There was no memory. The modules and the pool come back.
 #[derive(Drop)]
 pub struct MakeRefused<K, T: Stamped + Copy> {
+    /// The modules that were handed in.
     pub modules: Vec<K>,
+    /// The pool that was handed in.
     pub pool: Pool<T>,
 }
 
 /// What a closed board had: its modules and its pool, and how many stamps were drawn.
 #[derive(Drop)]
 pub struct Closed<K, T: Stamped + Copy> {
+    /// The modules, as the last turns left them.
     pub modules: Vec<K>,
+    /// The pool, as the last turn left it.
     pub pool: Pool<T>,
+    /// How many stamps were drawn.
     pub drawn: u64,
 }

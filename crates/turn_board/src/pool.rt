@@ -32,7 +32,9 @@ pub trait Stamped {
 /// One move of a pool: an item that was put in, or taken out.
 #[derive(Clone, Copy, Debug)]
 pub struct Move<T> {
+    /// The item.
     pub item: T,
+    /// Whether it was put in; else it was taken out.
     pub put: bool,
 }
 

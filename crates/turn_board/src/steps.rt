@@ -102,6 +102,7 @@ impl<K: Kept, T: Stamped + Copy> Board<K, T> {
             ≡ some z) }
         ensures other { result ≢ count → token.new.me ≡ token.old.me }
     {
+        // For the proof alone.
         let _count = count;
         let word = TURNS + 1 + 8 * slot as usize;
         self.table.shared.load::<FindingNoted>(token, word)
@@ -158,6 +159,7 @@ impl<K: Kept, T: Stamped + Copy> Board<K, T> {
             × (unended (K.marks z) < 32) }
         ensures other { result ≢ count → token.new.me ≡ token.old.me }
     {
+        // For the proof alone.
         let _count = count;
         let word = TURNS + 2 + 8 * slot as usize;
         self.table.shared.load::<FindingMarked>(token, word)
@@ -254,6 +256,7 @@ pub(crate) fn stamp_for<K: Kept, T: Stamped + Copy, D: DrawFor>(
     ensures above { ((view_at token.old).reach ≤ result) × (result ≤ 68719476736)
         × ((h : Hold K) → (view_at token.old).hold ≡ Some h → h.bound ≤ result) }
 {
+    // For the proof alone.
     let _row = row;
     board.stamp_as::<D>(token)
 }

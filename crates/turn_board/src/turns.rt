@@ -74,6 +74,7 @@ impl<K: Kept, T: Stamped + Copy> Board<K, T> {
         ensures above { ((view seat.old).reach ≤ result)
             × ((h : Hold K) → (view seat.old).hold ≡ Some h → h.bound ≤ result) }
     {
+        // For the proof alone.
         let _slot = slot;
         let stamp = stamp_for::<K, T, Brand>(self, &mut seat.token, row);
         seat.bound = stamp + 1;

@@ -11,21 +11,27 @@ use std::snapshot::Snapshot;
 
 /// The turn that a seat holds: of which module, with the bound and the state that it found.
 pub struct Hold<K> {
+    /// The number of the module.
     pub slot: u64,
     /// One more than the last stamp of the module, what was drawn since included.
     pub bound: u64,
+    /// The state of the module that the seat found.
     pub taken: K,
     /// What was drawn since, rows with their stamps.
     pub since: LinkedList<(u64, u64)>,
+    /// Whether the seat has noted the state that it leaves.
     pub noted: bool,
+    /// Whether the seat has told the marks that it made.
     pub marked: bool,
 }
 
 /// The pool's turn that a seat holds: with the pool that it found.
 pub struct PoolHold<T: Stamped + Copy> {
+    /// The pool that the seat found.
     pub taken: Pool<T>,
     /// One more than the greatest stamp that ever entered the pool, as the board's word has it.
     pub top: u64,
+    /// Whether the seat has noted the state that it leaves.
     pub noted: bool,
 }
 
@@ -63,9 +69,13 @@ pub struct SeatView<K, T: Stamped + Copy> {
 
 /// What a board is told when it is made.
 pub struct Terms<K, T: Stamped + Copy> {
+    /// The lengths of the cursors.
     pub lengths: Snapshot<Vec<u32>>,
+    /// The modules at the beginning.
     pub opening: Snapshot<Vec<K>>,
+    /// The pool at the beginning.
     pub pool: Snapshot<Pool<T>>,
+    /// The number of seats.
     pub seats: u64,
 }
 

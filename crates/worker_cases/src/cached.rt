@@ -2,15 +2,13 @@
 //! predicates were called.
 
 ghost use Rattle.std.specs.Prelude.{◌<◌, ◌≤◌};
-ghost use Rattle.sq_expr.specs.Fits.{IsFit};
-ghost use Rattle.sq_expr.specs.Reach.{IsReachable};
 
 use crate::runs::policies_of;
 use case_kit::{Counted, block_of_case, catalogue_of_lines};
 use catalogue::Catalogue;
+use eddy_query::Fitting;
 use eddy_worker::{NoGate, run_many_cached};
-use sq_expr::Block;
-use sq_value::{Predicates, Tables};
+use sq_value::Predicates;
 use std::alloc::Global;
 use std::sync::Wait;
 use std::test::Fail;
@@ -47,19 +45,15 @@ fn tables_of(alloc: Global) -> Result<Catalogue, Fail> {
 fn found_by<F: Predicates + Sync, R: Threads + Wait + Sync>(
     rt: &R,
     alloc: Global,
-    block: &Block,
-    tables: &Tables,
-    functions: &F,
+    query: &Fitting<'_, F>,
     workers: usize,
     room: u32,
 ) -> Result<(usize, u64), Fail>
-    requires fits { IsFit (F.kinds_of functions.now) tables.now block.now }
-    requires reachable { IsReachable block.now }
     requires workers { (0 < workers) × (workers ≤ 16) }
     requires room { room ≤ 4096 }
 {
     let policies = policies_of(alloc, workers)?;
-    let cached = run_many_cached(rt, alloc, block, tables, policies, functions, &NoGate, room)?;
+    let cached = run_many_cached(rt, alloc, query, policies, &NoGate, room)?;
     Ok((cached.many.answered.combos.len(), cached.hits))
 }
 
@@ -91,8 +85,8 @@ fn case_said<R: Threads + Wait + Sync>(
     let functions = Counted::new();
     match block_of_case(alloc, catalogue, ways, text, &functions)? {
         Some(block) => {
-            let tables = catalogue.tables();
-            let (found, hits) = found_by(rt, alloc, &block, tables, &functions, workers, room)?;
+            let query = Fitting::new(&block, catalogue.tables(), &functions);
+            let (found, hits) = found_by(rt, alloc, &query, workers, room)?;
             said_of(alloc, found, hits, functions.calls(), any)
         }
         None => Ok(String::from_str(alloc, "no block")?),

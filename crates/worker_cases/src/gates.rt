@@ -1,15 +1,13 @@
 //! What workers tell a gate: their turns in pairs, and that each is in a thread of its own.
 
 ghost use Rattle.std.specs.Prelude.{◌≡◌, ◌<◌, ◌≤◌, IfOk, length};
-ghost use Rattle.sq_expr.specs.Fits.{IsFit};
-ghost use Rattle.sq_expr.specs.Reach.{IsReachable};
 
 use crate::told::told_of;
 use case_kit::{block_of_case, catalogue_of_lines};
+use eddy_query::Fitting;
 use eddy_worker::{Gate, Moment, run_many};
 use route_policy::RouteScript;
-use sq_expr::Block;
-use sq_value::{NoPredicates, Predicates, Tables};
+use sq_value::{NoPredicates, Predicates};
 use std::alloc::Global;
 use std::sync::Wait;
 use std::sync::atomic::{AtomicU64, Ordering};
@@ -154,18 +152,14 @@ fn scripts(alloc: Global, workers: usize) -> Result<Vec<RouteScript>, Fail>
 fn told_by_scripts<F: Predicates + Sync, G: Gate, R: Threads + Wait + Sync>(
     rt: &R,
     alloc: Global,
-    block: &Block,
-    tables: &Tables,
-    functions: &F,
+    query: &Fitting<'_, F>,
     workers: usize,
     gate: &G,
 ) -> Result<String, Fail>
-    requires fits { IsFit (F.kinds_of functions.now) tables.now block.now }
-    requires reachable { IsReachable block.now }
     requires workers { (0 < workers) × (workers ≤ 16) }
 {
     let policies = scripts(alloc, workers)?;
-    let many = run_many(rt, alloc, block, tables, policies, functions, gate)?;
+    let many = run_many(rt, alloc, query, policies, gate)?;
     told_of(alloc, &many.answered)
 }
 
@@ -183,8 +177,8 @@ fn join_told<R: Threads + Wait + Sync>(
     let gate = make_pairs(alloc)?;
     match block_of_case(alloc, &catalogue, ways, ORDERS, &NoPredicates)? {
         Some(block) => {
-            let tables = catalogue.tables();
-            let told = told_by_scripts(rt, alloc, &block, tables, &NoPredicates, workers, &gate)?;
+            let query = Fitting::new(&block, catalogue.tables(), &NoPredicates);
+            let told = told_by_scripts(rt, alloc, &query, workers, &gate)?;
             let turns = gate.whole().unwrap_or(0);
             Ok(format!(in alloc; "{turns} | {told} | {ways}")?)
         }
@@ -205,8 +199,8 @@ fn product_told<G: Gate, R: Threads + Wait + Sync>(
     let catalogue = catalogue_of_lines(alloc, TABLES)?;
     match block_of_case(alloc, &catalogue, "s s s s", text, &NoPredicates)? {
         Some(block) => {
-            let tables = catalogue.tables();
-            told_by_scripts(rt, alloc, &block, tables, &NoPredicates, workers, gate)
+            let query = Fitting::new(&block, catalogue.tables(), &NoPredicates);
+            told_by_scripts(rt, alloc, &query, workers, gate)
         }
         None => Ok(String::from_str(alloc, "no block")?),
     }

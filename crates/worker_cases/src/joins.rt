@@ -6,6 +6,7 @@ use crate::runs::run_by;
 use crate::told::told_of;
 use case_kit::{block_of_case, catalogue_of_lines};
 use catalogue::Catalogue;
+use eddy_query::Fitting;
 use eddy_worker::NoGate;
 use sq_value::NoPredicates;
 use std::alloc::Global;
@@ -48,8 +49,8 @@ fn case_told<R: Threads + Wait + Sync>(
 {
     match block_of_case(alloc, catalogue, ways, text, &NoPredicates)? {
         Some(block) => {
-            let tables = catalogue.tables();
-            let answered = run_by(rt, alloc, &block, tables, &NoPredicates, workers, &NoGate)?;
+            let query = Fitting::new(&block, catalogue.tables(), &NoPredicates);
+            let answered = run_by(rt, alloc, &query, workers, &NoGate)?;
             told_of(alloc, &answered)
         }
         None => Ok(String::from_str(alloc, "no block")?),

@@ -1,15 +1,13 @@
 //! What the policies of two workers are told.
 
 ghost use Rattle.std.specs.Prelude.{◌≡◌, IfOk, length};
-ghost use Rattle.sq_expr.specs.Fits.{IsFit};
-ghost use Rattle.sq_expr.specs.Reach.{IsReachable};
 
 use crate::told::told_of;
 use case_kit::{block_of_case, catalogue_of_lines};
+use eddy_query::Fitting;
 use eddy_worker::{NoGate, run_many};
 use route_policy::{PolicyCall, Recorder, RouteScript};
-use sq_expr::Block;
-use sq_value::{NoPredicates, Predicates, Tables};
+use sq_value::{NoPredicates, Predicates};
 use std::alloc::Global;
 use std::sync::Wait;
 use std::test::Fail;
@@ -65,15 +63,10 @@ fn calls_of(policies: &[Recorder<RouteScript>]) -> Option<usize> {
 fn told_by_two<F: Predicates + Sync, R: Threads + Wait + Sync>(
     rt: &R,
     alloc: Global,
-    block: &Block,
-    tables: &Tables,
-    functions: &F,
-) -> Result<String, Fail>
-    requires fits { IsFit (F.kinds_of functions.now) tables.now block.now }
-    requires reachable { IsReachable block.now }
-{
+    query: &Fitting<'_, F>,
+) -> Result<String, Fail> {
     let policies = recorders(alloc)?;
-    let many = run_many(rt, alloc, block, tables, policies, functions, &NoGate)?;
+    let many = run_many(rt, alloc, query, policies, &NoGate)?;
     let told = told_of(alloc, &many.answered)?;
     let (back, calls) = (many.policies.len(), calls_of(many.policies.as_slice()));
     Ok(format!(in alloc; "{told} by {back} of {calls:?}")?)
@@ -84,7 +77,8 @@ fn two_recorders_keep_each_choice_and_return(rt: HostRuntime) -> Result<(), Fail
     let alloc = rt.alloc();
     let catalogue = catalogue_of_lines(alloc, TABLES)?;
     if let Some(block) = block_of_case(alloc, &catalogue, "s s", ORDERS, &NoPredicates)? {
-        let told = told_by_two(&rt, alloc, &block, catalogue.tables(), &NoPredicates)?;
+        let query = Fitting::new(&block, catalogue.tables(), &NoPredicates);
+        let told = told_by_two(&rt, alloc, &query)?;
         assert_eq!(rt; told.as_str(), "7 0 0,0 0,1 1,2 by 2 of Some(28)");
         return Ok(());
     }

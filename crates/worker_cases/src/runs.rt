@@ -1,14 +1,12 @@
 //! Runs of a block by so many workers.
 
 ghost use Rattle.std.specs.Prelude.{◌≡◌, ◌<◌, ◌≤◌, IfOk, length};
-ghost use Rattle.sq_expr.specs.Fits.{IsFit};
-ghost use Rattle.sq_expr.specs.Reach.{IsReachable};
 
 use eddy_core::Answered;
+use eddy_query::Fitting;
 use eddy_worker::{Gate, run_many};
 use route_policy::{AnyPolicy, Greedy, Lottery, Pressure, RouteScript};
-use sq_expr::Block;
-use sq_value::{Predicates, Tables};
+use sq_value::Predicates;
 use std::alloc::Global;
 use std::sync::Wait;
 use std::test::Fail;
@@ -45,17 +43,13 @@ pub fn policies_of(alloc: Global, workers: usize) -> Result<Vec<AnyPolicy>, Fail
 pub fn run_by<'t, F: Predicates + Sync, G: Gate, R: Threads + Wait + Sync>(
     rt: &R,
     alloc: Global,
-    block: &'t Block,
-    tables: &'t Tables,
-    functions: &'t F,
+    query: &Fitting<'t, F>,
     workers: usize,
     gate: &G,
 ) -> Result<Answered<'t>, Fail>
-    requires fits { IsFit (F.kinds_of functions.now) tables.now block.now }
-    requires reachable { IsReachable block.now }
     requires workers { (0 < workers) × (workers ≤ 16) }
 {
     let policies = policies_of(alloc, workers)?;
-    let many = run_many(rt, alloc, block, tables, policies, functions, gate)?;
+    let many = run_many(rt, alloc, query, policies, gate)?;
     Ok(many.answered)
 }

@@ -195,6 +195,7 @@ fn hits_of_two<R: Threads + Wait + Sync>(rt: &R, alloc: Global) -> Result<Option
         gate: &NoGate,
     };
     let mut outputs = Outputs { out, notes };
+    // (what it answers is not asked for here)
     let _ended = program_as_shipped(&host, &words, &mut folder, &mut outputs);
     Ok(hits_in(outputs.notes.written()))
 }

@@ -253,6 +253,7 @@ fn truth_named(word: &str) -> Option<Truth> {
 /// The words that aren't read yet.
 #[derive(Drop)]
 pub struct Words<'t> {
+    /// The text behind the words that were read.
     pub rest: &'t str,
 }
 

@@ -8,6 +8,7 @@ use crate::asking::asked;
 use crate::planning::plan_for;
 use bag_meaning::Built;
 use eddy_core::{Answered, run_one};
+use eddy_query::Fitting;
 use result_sink::{in_order, write_answer};
 use route_policy::Lottery;
 use run_base::Bound;
@@ -72,6 +73,7 @@ fn calls_under<R: Threads + Wait + Sync>(
         out: MemorySink::with_room(alloc, 99)?,
         notes: MemorySink::with_room(alloc, 99)?,
     };
+    // (what it answers is not asked for here)
     let _status = run(&host, &functions, &words, &mut folder, &mut outputs);
     let is_written = outputs.out.written() == b"x\n1\n2\n3\n".as_slice();
     Ok(is_written.then_some(functions.calls.load(Ordering::SeqCst)))
@@ -98,7 +100,8 @@ fn written_of<P: Predicates>(
     requires { IsRunnable (P.kinds_of functions.now) tables.now bound.now }
 {
     let mut lottery = Lottery::new(1);
-    let answered = run_one(alloc, &bound.block, tables, &mut lottery, functions)?;
+    let query = Fitting::new(&bound.block, tables, functions);
+    let answered = run_one(alloc, &query, &mut lottery)?;
     let combos = in_order(&bound.block, tables, answered.combos)?;
     let mut out = SureSink::with_room(alloc, 99)?;
     write_answer(alloc, &bound.block, tables, &combos, &mut out)?;
@@ -155,7 +158,8 @@ fn line_under<P: Predicates>(
     requires { IsRunnable (P.kinds_of functions.now) tables.now bound.now }
 {
     let mut lottery = Lottery::new(seed);
-    let answered = run_one(alloc, &bound.block, tables, &mut lottery, functions)?;
+    let query = Fitting::new(&bound.block, tables, functions);
+    let answered = run_one(alloc, &query, &mut lottery)?;
     line_of(alloc, number, &answered)
 }
 
@@ -208,6 +212,7 @@ fn noted_by<R: Threads + Wait + Sync>(
         out: MemorySink::with_room(alloc, 99)?,
         notes: MemorySink::with_room(alloc, 99)?,
     };
+    // (what it answers is not asked for here)
     let _status = run(&host, &NoPredicates, &words, &mut folder, &mut outputs);
     Ok(outputs.notes)
 }

@@ -1,41 +1,17 @@
-use Rattle.std.proofs.Common.{◌≡◌, Err}
-use Rattle.std.specs.List.{flat_map}
-use Rattle.std.proofs.lemmas.Result.{err_from_is_err_and}
-use Rattle.outside.proofs.Laws.{AddsFront-longer, AddsFront-at_err}
-use Rattle.result_sink.specs.declared.fault.WriteFault.TheVariants as write
-use Rattle.result_sink.proofs.TextLemmas.{Adds-at_ok, AddsPart-longer, AddsPart-after}
-use Rattle.group_sink.specs.Texts.{heading_text, line_text}
+use Rattle.std.proofs.Common.{sym}
+use Rattle.result_sink.proofs.WroteLemmas.{wrote_behind, wrote_text, wrote_through}
 use Rattle.group_sink.proofs.TextsLemmas.{lines_text-is}
 use Rattle.group_sink.proofs.writing.write_report.Goals as goal
 
-pub returns-in_err-put_heading-clause-front : goal.returns-in_err-put_heading-clause-front
-returns-in_err-put_heading-clause-front g c =
-    let p = err_from_is_err_and c.from_residual.result c.from_residual.ensures.1 in
-    rw (p.1, lines_text-is) (AddsFront-longer _ _ _ _ c.in_err-put_heading.ensures.front)
+pub returns-in_err-put_heading : goal.returns-in_err-put_heading
+returns-in_err-put_heading g c = record {
+  wrote = wrote_text _ _ c.from_residual.result (sym (lines_text-is c.args.shape.now c.args.lines.now))
+      (wrote_through _ _ c.put_heading.result c.from_residual.result c.in_err-put_heading.field-0.0 c.in_err-put_heading.was
+      c.from_residual.ensures.1 c.put_heading.ensures.wrote);
+}
 
-pub returns-clause-ok : goal.returns-clause-ok
-returns-clause-ok g c =
-    rw lines_text-is
-    (Adds-at_ok c.put_records.result (g.O.Sink.written c.args.out.now) (g.O.Sink.written c.put_heading.new.out) (g.O.Sink.written c.put_records.new.out)
-    (heading_text c.args.shape.now) (flat_map line_text c.args.lines.now)
-    c.in_ok-put_heading.ensures.ok c.put_records.ensures.ok)
-
-pub returns-clause-front : goal.returns-clause-front
-returns-clause-front g c =
-    rw lines_text-is
-    (AddsFront-at_err c.put_records.result (g.O.Sink.written c.args.out.now) (g.O.Sink.written c.put_heading.new.out) (g.O.Sink.written c.put_records.new.out)
-    (heading_text c.args.shape.now) (flat_map line_text c.args.lines.now)
-    c.in_ok-put_heading.ensures.ok c.put_records.ensures.front)
-
-pub returns-in_err-put_heading-clause-short : goal.returns-in_err-put_heading-clause-short
-returns-in_err-put_heading-clause-short g c = λ e.
-    let p = err_from_is_err_and c.from_residual.result c.from_residual.ensures.1 in
-    let was : c.put_heading.result ≡ Err write.Memory = cc (c.in_err-put_heading.was, p.1, p.2, e) in
-    rw lines_text-is (AddsPart-longer _ _ _ _ (c.put_heading.ensures.short was))
-
-pub returns-clause-short : goal.returns-clause-short
-returns-clause-short g c = λ e.
-    rw lines_text-is
-    (AddsPart-after (g.O.Sink.written c.args.out.now) (g.O.Sink.written c.put_heading.new.out) (g.O.Sink.written c.put_records.new.out)
-    (heading_text c.args.shape.now) (flat_map line_text c.args.lines.now)
-    c.in_ok-put_heading.ensures.ok (c.put_records.ensures.short e))
+pub returns : goal.returns
+returns g c = record {
+  wrote = wrote_text _ _ c.put_records.result (sym (lines_text-is c.args.shape.now c.args.lines.now))
+      (wrote_behind _ _ c.put_records.result c.in_ok-put_heading.ensures.wrote c.put_records.ensures.wrote);
+}

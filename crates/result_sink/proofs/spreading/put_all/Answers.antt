@@ -1,28 +1,21 @@
-use Rattle.std.proofs.Common.{◌≡◌, Err, ◌∙◌, arith}
-use Rattle.std.proofs.lemmas.Result.{err_from_is_err_and}
+use Rattle.std.proofs.Common.{◌∙◌, arith}
 use Rattle.result_sink.specs.Ready.{record_text}
-use Rattle.result_sink.specs.declared.fault.WriteFault.TheVariants as write
-use Rattle.result_sink.proofs.TextLemmas.{AddsBefore-more, AddsBefore-front, AddsBefore-part}
+use Rattle.result_sink.proofs.TextLemmas.{AddsBefore-more}
+use Rattle.result_sink.proofs.WroteLemmas.{wrote_before}
 use Rattle.result_sink.proofs.spreading.put_all.Goals as goal
 
-pub returns-in_err-put_some-clause-front : goal.returns-in_err-put_some-clause-front
-returns-in_err-put_some-clause-front g c =
-    let front = AddsBefore-front (record_text c.args.block.now c.args.tables.now) c.args.combos.now _ _ _ _ _ _
-    c.split_at.ensures.by_index.0 c.loop-rest.invariant.added c.in_err-put_some.ensures.front in
-    let p = err_from_is_err_and c.from_residual.result c.from_residual.ensures.1 in
-    rw p.1 front
-
-pub returns-in_err-put_some-clause-short : goal.returns-in_err-put_some-clause-short
-returns-in_err-put_some-clause-short g c = λ e.
-    let p = err_from_is_err_and c.from_residual.result c.from_residual.ensures.1 in
-    let was : c.put_some.result ≡ Err write.Memory = cc (c.in_err-put_some.was, p.1, p.2, e) in
-    AddsBefore-part (record_text c.args.block.now c.args.tables.now) c.args.combos.now _ _ _ _ _ _
-    c.split_at.ensures.by_index.0 c.loop-rest.invariant.added (c.put_some.ensures.short was)
+pub returns-in_err-put_some : goal.returns-in_err-put_some
+returns-in_err-put_some g c = record {
+  wrote = wrote_before (record_text c.args.block.now c.args.tables.now) c.args.combos.now _ _ _
+      c.put_some.result c.from_residual.result c.in_err-put_some.field-0.0 c.in_err-put_some.was c.from_residual.ensures.1
+      c.split_at.ensures.by_index.0 c.loop-rest.invariant.kept c.loop-rest.invariant.added c.put_some.ensures.wrote;
+}
 
 pub loop-rest-preserved : goal.loop-rest-preserved
-loop-rest-preserved g c = record {
-  kept = c.in_ok-put_some.ensures.kept ∙ c.loop-rest.invariant.kept;
-  counts = omega (arith, c.loop-rest.invariant.counts, c.put_some.ensures.counts);
-  added = AddsBefore-more (record_text c.args.block.now c.args.tables.now) c.args.combos.now _ _ _ _ _ _
-      c.split_at.ensures.by_index.0 c.loop-rest.invariant.added c.in_ok-put_some.ensures.ok;
-}
+loop-rest-preserved g c =
+    let w = c.in_ok-put_some.ensures.wrote in record {
+      kept = w.kept ∙ c.loop-rest.invariant.kept;
+      counts = omega (arith, c.loop-rest.invariant.counts, w.counts);
+      added = AddsBefore-more (record_text c.args.block.now c.args.tables.now) c.args.combos.now _ _ _ _ _ _
+          c.split_at.ensures.by_index.0 c.loop-rest.invariant.added w.ok;
+    }

@@ -1,21 +1,11 @@
-use Rattle.std.proofs.Common.{◌≡◌, Err, []}
-use Rattle.std.proofs.lemmas.Result.{err_from_is_err_and}
-use Rattle.outside.proofs.Laws.{AddsFront-within}
+use Rattle.std.proofs.Common.{[], refl}
 use Rattle.result_sink.specs.Ready.{record_text}
-use Rattle.result_sink.specs.declared.fault.WriteFault.TheVariants as write
-use Rattle.result_sink.proofs.TextLemmas.{flat_map-split, AddsPart-within}
+use Rattle.result_sink.proofs.WroteLemmas.{wrote_at}
 use Rattle.result_sink.proofs.writing.put_records.Goals as goal
 
-pub returns-in_err-put_record-clause-front : goal.returns-in_err-put_record-clause-front
-returns-in_err-put_record-clause-front g c =
-    let whole = flat_map-split (record_text c.args.block.now c.args.tables.now) c.args.combos.now c.loop-combo.combo-index record { rows = []; stamp = 0 } c.loop-combo-test.true in
-    let front = AddsFront-within _ _ _ _ _ _ _ whole c.loop-combo.invariant.added c.in_err-put_record.ensures.front in
-    let p = err_from_is_err_and c.from_residual.result c.from_residual.ensures.1 in
-    rw p.1 front
-
-pub returns-in_err-put_record-clause-short : goal.returns-in_err-put_record-clause-short
-returns-in_err-put_record-clause-short g c = λ e.
-    let whole = flat_map-split (record_text c.args.block.now c.args.tables.now) c.args.combos.now c.loop-combo.combo-index record { rows = []; stamp = 0 } c.loop-combo-test.true in
-    let p = err_from_is_err_and c.from_residual.result c.from_residual.ensures.1 in
-    let was : c.put_record.result ≡ Err write.Memory = cc (c.in_err-put_record.was, p.1, p.2, e) in
-    AddsPart-within _ _ _ _ _ _ _ whole c.loop-combo.invariant.added (c.put_record.ensures.short was)
+pub returns-in_err-put_record : goal.returns-in_err-put_record
+returns-in_err-put_record g c = record {
+  wrote = wrote_at (record_text c.args.block.now c.args.tables.now) c.args.combos.now c.loop-combo.combo-index record { rows = []; stamp = 0 } _
+      c.put_record.result c.from_residual.result c.in_err-put_record.field-0.0 c.in_err-put_record.was c.from_residual.ensures.1
+      c.loop-combo-test.true refl c.loop-combo.invariant.kept c.loop-combo.invariant.added c.put_record.ensures.wrote;
+}

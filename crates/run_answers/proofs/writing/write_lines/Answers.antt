@@ -16,5 +16,4 @@ returns g c =
     put_written _ _ _ _ c.write_report-written.result c.stopped.result c.stopped.ensures.is c.stopped.ensures.silent
     (ap (lines_text c.args.shape.now)
     (ap (λ (lines : List Line). map (λ (l : Line). l.cells) lines) c.as_slice.ensures.value ∙ c.in-Ok.ensures))
-    c.write_report-written.ensures.counts c.write_report-written.ensures.ok c.write_report-written.ensures.failed
-    c.write_report-written.ensures.front c.write_report-written.ensures.short c.write_report-written.ensures.kept
+    c.write_report-written.ensures.wrote

@@ -15,8 +15,7 @@ returns-in_default g c =
 pub returns : goal.returns
 returns g c =
     let block = c.args.block.now in
-    put_written _ _ _ _ c.write_answer_by-written.result c.stopped.result c.stopped.ensures.is c.stopped.ensures.silent
+    put_written _ _ _ _ c.par_write_answer-written.result c.stopped.result c.stopped.ensures.is c.stopped.ensures.silent
     (ap (answer_text block c.args.tables.now)
     (ap (λ (cs : List Combo). map (rows_of_combo block) cs) c.as_slice-combos.ensures.value ∙ c.in-Ok.ensures))
-    c.write_answer_by-written.ensures.counts c.write_answer_by-written.ensures.ok c.write_answer_by-written.ensures.failed
-    c.write_answer_by-written.ensures.front c.write_answer_by-written.ensures.short c.write_answer_by-written.ensures.kept
+    c.par_write_answer-written.ensures.wrote

@@ -15,5 +15,5 @@ returns c =
     let on : c.order_on-on.result ≡ order_on (map seen c.args.aliases.now) c.args.by.cells.now column =
     c.order_on-on.ensures c.args.by.cells.now c.requires in
     c.order_fault.ensures
-    ∙ ap (λ (at : ℕ). first_of (order_faults by at c.order_on-on.result)) c.place_of.ensures
+    ∙ ap (λ (at : ℕ). first_of (order_faults by at c.order_on-on.result)) c.column_place.ensures
     ∙ ap (λ (r : Result SortOn BindFault). first_of (order_faults by (column_place column) r)) on

@@ -10,7 +10,7 @@ returns-in-Some c cells held =
     let column = c.args.column.now in
     let meant = c.in-Some.meant in
     let kept = held_at c.args.names.now.entries cells column.column.text c.args.name.now held c.requires in
-    c.told.ensures ∙ ap (λ (at : ℕ). told at meant) c.place_of.ensures
+    c.told.ensures ∙ ap (λ (at : ℕ). told at meant) c.column_place.ensures
     ∙ meant_sorted (map seen c.args.aliases.now) column cells (Some meant) (sym c.in-Some.is ∙ c.meaning.ensures ∙ kept)
 
 pub returns-in-None : goal.returns-in-None
