@@ -11,7 +11,7 @@ here=$(cd "$(dirname "$0")" && pwd)
 work=$(mktemp -d)
 trap 'rm -rf "$work"' EXIT
 status=0
-python3 "$here/engines" --only small --without sqlite3 PostgreSQL Miller awk --repeat "${REPEAT:-21}" --raw "$work/raw" "$@" \
+python3 "$here/engines" --only =small --without sqlite3 PostgreSQL Miller awk --repeat "${REPEAT:-21}" --raw "$work/raw" "$@" \
     --also 'together=--shared' --also 'four workers=--workers 4' --also 'four workers, together=--workers 4 --shared' \
     > /dev/null 2> "$work/notes" || status=$?
 [ -s "$work/raw" ] || { cat "$work/notes" >&2; exit 2; }

@@ -159,7 +159,7 @@ def measure_all(given):
             if hasattr(engine, "prepare"):
                 engine.prepare(work)
         for workload in workloads.all_workloads(given.scale):
-            if given.only and not any(workload.name.startswith(it) for it in given.only):
+            if given.only and not any(workload.name == it[1:] if it.startswith("=") else workload.name.startswith(it) for it in given.only):
                 continue
             files = {it.name: f"{work}/{it.name}.csv" for it in workload.tables}
             for table in workload.tables:
@@ -184,7 +184,7 @@ def words():
     parser.add_argument("--beside", action="append", default=[], metavar="NAME=PROGRAM",
                         help="measures another built program, too, such as an earlier one: 'before=/path/to/eddyql'")
     parser.add_argument("--scale", type=float, default=1.0, help="a factor of all numbers of rows")
-    parser.add_argument("--only", nargs="+", default=[], metavar="WORKLOAD", help="the workloads whose names begin so")
+    parser.add_argument("--only", nargs="+", default=[], metavar="WORKLOAD", help="the workloads whose names begin so; '=NAME' is a whole name")
     parser.add_argument("--without", nargs="+", default=[], metavar="ENGINE", help="peers to pass over")
     parser.add_argument("--seed", type=int, default=1, help="of the tables")
     parser.add_argument("--repeat", type=int, default=3, help="runs of each, of which the median counts")

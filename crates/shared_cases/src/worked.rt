@@ -38,6 +38,12 @@ SELECT a.x FROM n a, n b WHERE b.x BETWEEN a.x AND a.x";
 const OF_RANGES: &str =
     " 0,0 0,1 0,2 0,3 1,0 1,1 1,2| 0,0 0,1 0,2 1,0 1,1 1,2 2,1 2,2| 0,0 1,1 2,2";
 
+// Comparisons with literals beside joins of one table, by aliases of two statements.
+const OVER_LITERALS: &str = "SELECT a.x, b.x FROM n a, n b WHERE a.x < b.x AND b.x = 2
+SELECT a.x, b.x FROM n a, n b WHERE a.x = b.x AND a.x > 1";
+
+const OF_LITERALS: &str = " 0,0 0,1 0,2| 0,1| 1,1 2,2";
+
 // What so many workers answer for statements over tables, the most hops, and how many turns of modules they take. By
 // the script `v0`, or each by a policy of its own.
 fn told_by<R: Threads + Wait + Sync>(
@@ -79,6 +85,7 @@ fn statements_share_the_rows_of_their_tables(rt: HostRuntime) -> Result<(), Fail
     for workers in [1, 2, 4, 16] {
         for (lines, ways, statements, wanted) in [
             (ONE_TABLE, "s", OVER_ONE, OF_ONE),
+            (ONE_TABLE, "s", OVER_LITERALS, OF_LITERALS),
             (ORDERS, "s s", OVER_ORDERS, OF_ORDERS),
             (RANGES, "s s", OVER_RANGES, OF_RANGES),
         ] {
