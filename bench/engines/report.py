@@ -17,7 +17,8 @@ def cell(it, own, limit):
         return "–"
     if it["what"] != "done":
         return {"late": f"> {limit} s", "failed": "failed", "differs": "another answer"}[it["what"]]
-    time = f"×{seconds_of(it) / own:.2g}" if own else f"{seconds_of(it):.2f} s"
+    many = seconds_of(it) / own if own else 0
+    time = f"×{many:,.0f}" if many >= 10 else f"×{many:.2g}" if own else f"{seconds_of(it):.2f} s"
     return f"{time}, {it['memory'] / 1024:.0f} MB"
 
 
