@@ -8,8 +8,6 @@ mod cache;
 mod call_key;
 mod laws;
 mod store;
-#[cfg(test)]
-mod tests;
 
 pub use cache::Cache;
 pub use call_key::CallKey;

@@ -3,4 +3,3 @@ pub mod WroteLemmas
 mod DecimalLaws
 pub mod KeyLaws
 mod OrderLaws
-pub mod SampleLaws

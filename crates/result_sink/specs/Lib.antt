@@ -1,4 +1,3 @@
 pub mod Ready
 pub mod Wrote
 pub mod Written
-pub mod Samples

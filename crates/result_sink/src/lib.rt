@@ -16,14 +16,12 @@ mod prefix;
 mod record;
 mod sorting;
 mod spreading;
-#[cfg(test)]
-mod tests;
 mod writing;
 
 pub use cell::cell_of;
 pub use fault::WriteFault;
 pub use field::push_field;
-pub use ordering::{in_order, order_law, par_in_order, rises};
+pub use ordering::{in_order, order_law, ordered_by, par_in_order, rises};
 pub use record::{finish_record, push_separator};
-pub use spreading::par_write_answer;
+pub use spreading::{par_write_answer, put_all};
 pub use writing::{put_line, write_answer};

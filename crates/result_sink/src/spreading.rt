@@ -53,8 +53,12 @@ fn put_some<O: Sink, R: Threads + Sync>(
     }
 }
 
-/// The records of combinations, in order, so many at a time.
-pub(crate) fn put_all<O: Sink, R: Threads + Sync>(
+/// Puts the records of combinations, in order, each made by one of so many threads.
+///
+/// # Errors
+/// - `Failed`: a put of the sink failed.
+/// - `Memory`: there is no memory for it.
+pub fn put_all<O: Sink, R: Threads + Sync>(
     rt: &R,
     alloc: Global,
     threads: usize,

@@ -359,6 +359,3 @@ pub fn put_note<N: Sink>(
     }
     put_refusal(alloc, tables, remotes, status, notes)
 }
-
-#[cfg(test)]
-mod tests;
