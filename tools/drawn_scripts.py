@@ -65,6 +65,11 @@ class Scripts:
         # Whether some alias may have no key that reaches it, and whether some predicate is called.
         self.may_be_unreachable = self.has_call = False
 
+    def some(self, known, least, most):
+        """So many of these, seldom one of them twice."""
+        many = min(self.rng.randint(least, most), len(known))
+        return self.rng.choices(known, k=many) if self.rng.random() < 0.1 else self.rng.sample(known, many)
+
     def cell(self, values):
         return None if self.rng.random() < 0.12 else self.rng.choice(values)
 
@@ -258,7 +263,7 @@ class Scripts:
     def plain(self, columns, named, rest):
         """All columns, or some of them."""
         rng = self.rng
-        chosen = columns if rng.random() < 0.1 else rng.sample(columns, rng.randint(1, min(len(columns), 4)))
+        chosen = columns if rng.random() < 0.1 else self.some(columns, 1, 4)
         cells = [self.column(name, kind) for name, kind in chosen]
         ours = "*" if chosen is columns else ", ".join(it.ours for it in cells)
         if chosen is columns:
@@ -277,7 +282,7 @@ class Scripts:
     def grouped(self, columns, named, rest):
         """Groups by up to three columns, or all as one group: some of the columns, and set functions beside them."""
         rng = self.rng
-        by = rng.sample(columns, rng.randint(0, min(len(columns), 3)))
+        by = self.some(columns, 0, 3)
         cells = [self.column(name, kind) for name, kind in by if rng.random() < 0.7]
         for at in range(rng.randint(0 if cells else 1, 3)):
             (name, kind), word = rng.choice(columns), rng.choice(["COUNT", "COUNT", "SUM", "MIN", "MAX"])
@@ -298,7 +303,7 @@ class Scripts:
         if not known or rng.random() < 0.35:
             return [], []
         ours, theirs = [], []
-        for name, its in rng.sample(known, rng.randint(1, min(len(known), 3))):
+        for name, its in self.some(known, 1, 3):
             way, nulls = rng.choice(["", " ASC", " DESC", " DESC"]), rng.choice(["", "", " NULLS FIRST", " NULLS LAST"])
             ours.append(name + way + nulls)
             theirs.append(its + way + (nulls or (" NULLS FIRST" if way == " DESC" else " NULLS LAST")))
