@@ -111,6 +111,14 @@ def read(top, crate):
     return {words[0]: words[1:] for words in (it.split(None, 2) for it in lines if not it.startswith("#")) if len(words) > 1}
 
 
+def held(said, sums, top, crate):
+    """The edits that a record has as they are now, over the sums that are now: each name's sum, and what refused it."""
+    if any(said.get(name, [""])[0] != it for name, it in sums.items()):
+        return {}
+    known = {it.name.removesuffix(".edit"): sum_of_edit(top, it) for it in edits.all_edits(top, crate)}
+    return {name: (words[0], " ".join(words[1:])) for name, words in said.items() if known.get(name) == words[0]}
+
+
 def stale(repository, sums, crate):
     """What a crate's record says that no longer holds, or lacks: a list of words, empty where it fits."""
     said, found = read(repository.top, crate), []
