@@ -1,2 +1,4 @@
 mod BagLemmas
 mod ConditionLemmas
+mod NoteRows
+mod ReadyLemmas

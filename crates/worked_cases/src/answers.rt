@@ -1,23 +1,61 @@
 //! Answers whose order and text were worked out by hand, over one small table.
-
-ghost use Rattle.std.specs.Prelude.{◌≡◌, ◌<◌, ◌≤◌, IfOk, All, slice_index};
+ghost use Rattle.std.specs.Prelude.{◌≡◌, ◌≤◌, [], IfOk, IfSome};
 ghost use Rattle.sq_value.specs.Relation.{IsRow, HasKind};
 ghost use Rattle.sq_value.specs.declared.value.ColType.TheVariants as kind;
-ghost use Rattle.result_sink.specs.Samples.{sample_columns, AreSampleTables, IsSampleBlock, Fall};
+ghost use Rattle.worked_cases.specs.Ready.{IsReady, answer_columns};
 
-use crate::ordering::ordered_by;
-use crate::spreading::put_all;
-use crate::writing::put_heading;
-use crate::{WriteFault, in_order, write_answer};
+use crate::given::{combo, falling};
 use bag_meaning::Combo;
+use case_kit::block_of_case;
+use catalogue::{Catalogue, CatalogueFault};
 use outside::{MemorySink, Sink, SureSink};
-use sq_expr::{Access, AliasUse, Block, Conjuncts, OrderKey, OutCol};
-use sq_value::{ColType, Column, Dec, Memory, SortWay, SqText, Table, Tables, Value};
-use sqlite_items::Items;
+use result_sink::{WriteFault, in_order, ordered_by, put_all, put_line, write_answer};
+use sq_expr::Block;
+use sq_value::{ColType, Column, Dec, Memory, NoPredicates, SqText, Table, Value};
 use std::alloc::Global;
 use std::process::Abort;
 use std::test::Fail;
 use std::thread::Threads;
+
+/// A row of the table: n, t, and the units of d and e.
+type Given = (Option<i64>, &'static str, Option<i64>, Option<i64>);
+
+const ROWS: [Given; 6] = [
+    (Some(1), "b", Some(5), None),
+    (None, "a,b", Some(-5), Some(-1)),
+    (Some(i64::MIN), "say \"a\"", Some(100), Some(12_000)),
+    (Some(i64::MAX), "", None, Some(0)),
+    (Some(1), "two\nlines\r", Some(5), Some(123_456)),
+    (None, "a", Some(-1_234), Some(i64::MAX)),
+];
+
+/// The order of two aliases of the table, a bar, and the rows of alias 0 in this order.
+const ORDERS: &str = "\
+| 012345
+ORDER BY a.n | 204315
+ORDER BY a.n NULLS FIRST | 152043
+ORDER BY a.n DESC NULLS LAST | 304215
+ORDER BY a.n DESC NULLS FIRST | 153042
+ORDER BY a.t | 351024
+ORDER BY a.d | 510423
+ORDER BY a.d DESC NULLS LAST, a.e DESC NULLS FIRST | 204153
+ORDER BY b.e NULLS FIRST, a.n DESC NULLS LAST, a.n | 215304";
+
+/// The combinations that are put in order.
+const UNORDERED: [(u32, u32); 6] = [(5, 0), (4, 1), (3, 1), (2, 0), (1, 0), (0, 1)];
+
+/// A statement and combinations, and the text of their answer: its heading, and its records.
+const WRITTEN: &str =
+    "SELECT a.n AS x, a.t AS x, a.d AS x, a.e AS x, b.e AS \"y,\"\"z\"\"\" FROM t a, t b";
+
+const PAIRS: [(u32, u32); 6] = [(5, 0), (4, 1), (3, 2), (2, 0), (1, 0), (0, 3)];
+
+const HEADING: &str = "x,x,x,x,\"y,\"\"z\"\"\"\n";
+
+const RECORDS: &str = "\
+,a,-12.34,922337203685477.5807,\n1,\"two\nlines\r\",0.05,12.3456,-0.0001\n\
+9223372036854775807,,,0.0000,1.2000\n-9223372036854775808,\"say \"\"a\"\"\",1.00,1.2000,\n\
+,\"a,b\",-0.05,-0.0001,\n1,b,0.05,,0.0000\n";
 
 fn column(alloc: Global, name: &str, kind: ColType) -> Result<Column, Memory>
     ensures { IfOk result (λ c. c ≡ record { name = name.now; kind = kind }) }
@@ -45,23 +83,16 @@ fn decimal(units: Option<i64>, scale: u8) -> Value
     }
 }
 
-/// A row of the sample table.
-fn row(
-    alloc: Global,
-    number: Option<i64>,
-    text: &str,
-    two: Option<i64>,
-    four: Option<i64>,
-) -> Result<Vec<Value>, Memory>
-    ensures { IfOk result (λ values. IsRow sample_columns values.items) }
+fn row(alloc: Global, given: Given) -> Result<Vec<Value>, Memory>
+    ensures { IfOk result (λ values. IsRow answer_columns values.items) }
 {
+    let (number, text, two, four) = given;
     let text = Value::Text(SqText::of(alloc, text)?);
     Ok(vec![in alloc; integer(number), text, decimal(two, 2), decimal(four, 4)]?)
 }
 
-/// The sample table: n INTEGER, t TEXT, d DECIMAL(2), e DECIMAL(4), with six rows.
-fn sample_table(alloc: Global) -> Result<Table, Memory>
-    ensures { IfOk result (λ table. table.columns ≡ sample_columns) }
+fn empty_table(alloc: Global) -> Result<Table, Memory>
+    ensures { IfOk result (λ table. table ≡ record { columns = answer_columns; rows = [] }) }
 {
     let columns = vec![in alloc;
         column(alloc, "n", ColType::Integer)?,
@@ -69,208 +100,140 @@ fn sample_table(alloc: Global) -> Result<Table, Memory>
         column(alloc, "d", ColType::Decimal(2))?,
         column(alloc, "e", ColType::Decimal(4))?,
     ]?;
-    let mut table = Table::new(alloc, columns)?;
-    table.push_row(row(alloc, Some(1), "b", Some(5), None)?)?;
-    table.push_row(row(alloc, None, "a,b", Some(-5), Some(-1))?)?;
-    table.push_row(row(alloc, Some(i64::MIN), "say \"a\"", Some(100), Some(12_000))?)?;
-    table.push_row(row(alloc, Some(i64::MAX), "", None, Some(0))?)?;
-    table.push_row(row(alloc, Some(1), "two\nlines\r", Some(5), Some(123_456))?)?;
-    table.push_row(row(alloc, None, "a", Some(-1_234), Some(i64::MAX))?)?;
+    Table::new(alloc, columns)
+}
+
+/// The table: n INTEGER, t TEXT, d DECIMAL(2), e DECIMAL(4), with six rows.
+fn sample_table(alloc: Global) -> Result<Table, Memory> {
+    let mut table = empty_table(alloc)?;
+    for given in ROWS {
+        if table.rows() < 1000 {
+            table.push_row(row(alloc, given)?)?;
+        }
+    }
     Ok(table)
 }
 
-fn sample_tables(alloc: Global) -> Result<Tables, Memory>
-    ensures { IfOk result AreSampleTables }
-{
+/// The catalogue of this table, t.
+fn sample_catalogue(alloc: Global) -> Result<Catalogue, CatalogueFault> {
     let table = sample_table(alloc)?;
-    let mut tables = Tables::new(alloc);
-    tables.push(table)?;
-    Ok(tables)
+    let mut catalogue = Catalogue::new(alloc);
+    catalogue.add("t", table)?;
+    Ok(catalogue)
 }
 
-fn scanned() -> AliasUse
-    ensures { result.table ≡ 0 }
+/// The block of a statement.
+#[tactic(auto, using(crate::proofs::ReadyLemmas::fit_ready))]
+fn block_of(alloc: Global, catalogue: &Catalogue, text: &str) -> Result<Option<Block>, Memory>
+    ensures { IfOk result (λ block. IfSome block (IsReady catalogue.now.tables)) }
 {
-    let access = Access {
-        scan: true,
-        look_up: None,
-    };
-    AliasUse { table: 0, access }
+    block_of_case(alloc, catalogue, "s", text, &NoPredicates)
 }
 
-/// The output columns of these aliases and columns, each named by its letter.
-fn output(alloc: Global, shown: &[(u8, u32)]) -> Result<Items<OutCol>, Memory>
-    ensures { IfOk result (λ items. All (λ (c : OutCol). (c.alias < 2) × (c.column < 4)) items) }
-{
-    let mut items = Items::new(alloc);
-    for (alias, column) in shown {
-        if *alias < 2 && *column < 4 {
-            items.push(OutCol {
-                alias: *alias,
-                column: *column,
-                name: SqText::of(alloc, if *alias == 0 { "x" } else { "y,\"z\"" })?,
-            })?;
-        }
-    }
-    Ok(items)
-}
-
-fn order(alloc: Global, keys: &[OrderKey]) -> Result<Items<OrderKey>, Memory>
-    ensures { IfOk result (λ items. All (λ (k : OrderKey). (k.alias < 2) × (k.column < 4)) items) }
-{
-    let mut items = Items::new(alloc);
-    for key in keys {
-        if key.alias < 2 && key.column < 4 {
-            items.push(*key)?;
-        }
-    }
-    Ok(items)
-}
-
-/// Two aliases of the sample table, with these output columns and keys.
-fn sample_block(alloc: Global, shown: &[(u8, u32)], keys: &[OrderKey]) -> Result<Block, Memory>
-    ensures { IfOk result IsSampleBlock }
-{
-    Ok(Block {
-        aliases: Items::from_vec(vec![in alloc; scanned(), scanned()]?),
-        conjuncts: Conjuncts::new(alloc, Items::new(alloc))?,
-        output: output(alloc, shown)?,
-        order: order(alloc, keys)?,
-    })
-}
-
-/// The combination of a row of alias 0 and one of alias 1.
-fn combo(first: u32, second: u32) -> Combo
-    ensures { slice_index result.rows 0 ≡ first }
-{
-    let mut rows = [0; 12];
-    rows[0] = first;
-    rows[1] = second;
-    Combo { rows, stamp: 0 }
-}
-
-/// These combinations, as far as the rows of alias 0 fall.
-fn falling(alloc: Global, pairs: &[(u32, u32)]) -> Result<Vec<Combo>, Memory>
-    ensures { IfOk result (λ combos. Fall combos.items) }
-{
-    let mut combos = Vec::new(alloc);
-    let mut last = 100;
-    for (first, second) in pairs {
-        if *first < last {
-            combos.push(combo(*first, *second))?;
-            last = *first;
-        }
-    }
-    Ok(combos)
-}
-
-/// A key: a column of an alias, and how it is sorted.
-fn key(alias: u8, column: u32, descending: bool, nulls_first: bool) -> OrderKey {
-    let way = SortWay {
-        descending,
-        nulls_first,
-    };
-    OrderKey { alias, column, way }
-}
-
-/// Compares the rows of alias 0 of six combinations.
-fn check_rows(rt: &impl Abort, combos: &[Combo], expected: [u32; 6]) -> Result<(), Fail> {
-    assert_eq!(rt; combos.len(), 6);
+/// Whether the rows of alias 0 of some combinations are these digits.
+fn are_rows(combos: &[Combo], digits: &str) -> bool {
+    let digits = digits.as_bytes();
     for (place, combo) in combos.iter().enumerate() {
-        assert_eq!(rt; Some(&combo.rows[0]), expected.get(place));
+        if digits.get(place).map(|digit| u32::from(*digit))
+            != Some(combo.rows[0].wrapping_add(48))
+        {
+            return false;
+        }
     }
-    Ok(())
+    combos.len() == digits.len()
 }
 
-/// Orders six combinations that arrive with falling rows of alias 0, by one thread and by several, and
-/// compares these rows.
-#[tactic(auto, using(crate::proofs::SampleLaws::sample_ordered, crate::proofs::SampleLaws::sample_apart))]
-fn check_order<R: Abort + Threads + Sync>(
+/// Whether six combinations that arrive with falling rows of alias 0 are put in order, by one thread and by several.
+#[tactic(auto, using(crate::proofs::ReadyLemmas::some_apart))]
+fn are_ordered<R: Threads + Sync>(
     rt: &R,
     alloc: Global,
-    keys: &[OrderKey],
-    expected: [u32; 6],
-) -> Result<(), Fail> {
-    let tables = sample_tables(alloc)?;
-    let block = sample_block(alloc, &[], keys)?;
-    let pairs = [(5, 0), (4, 1), (3, 1), (2, 0), (1, 0), (0, 1)];
-    let sorted = in_order(&block, &tables, falling(alloc, &pairs)?)?;
-    check_rows(rt, &sorted, expected)?;
+    catalogue: &Catalogue,
+    block: &Block,
+    digits: &str,
+) -> Result<bool, Fail>
+    requires ready { IsReady catalogue.now.tables block.now }
+{
+    let tables = catalogue.tables();
+    let sorted = in_order(block, tables, falling(alloc, &UNORDERED)?)?;
+    let mut right = are_rows(sorted.as_slice(), digits);
     for threads in [1, 2, 3, 5, 16] {
-        let again = falling(alloc, &pairs)?;
-        let sorted = ordered_by(rt, threads, &block, &tables, again)?;
-        check_rows(rt, &sorted, expected)?;
+        let again = falling(alloc, &UNORDERED)?;
+        let sorted = ordered_by(rt, threads, block, tables, again)?;
+        right &= are_rows(sorted.as_slice(), digits);
     }
-    Ok(())
+    Ok(right)
 }
 
 #[test]
 fn answers_are_ordered(rt: HostRuntime) -> Result<(), Fail> {
     let alloc = rt.alloc();
-    check_order(&rt, alloc, &[], [0, 1, 2, 3, 4, 5])?;
-    check_order(&rt, alloc, &[key(0, 0, false, false)], [2, 0, 4, 3, 1, 5])?;
-    check_order(&rt, alloc, &[key(0, 0, false, true)], [1, 5, 2, 0, 4, 3])?;
-    check_order(&rt, alloc, &[key(0, 0, true, false)], [3, 0, 4, 2, 1, 5])?;
-    check_order(&rt, alloc, &[key(0, 0, true, true)], [1, 5, 3, 0, 4, 2])?;
-    check_order(&rt, alloc, &[key(0, 1, false, false)], [3, 5, 1, 0, 2, 4])?;
-    check_order(&rt, alloc, &[key(0, 2, false, false)], [5, 1, 0, 4, 2, 3])?;
-    let keys = [key(0, 2, true, false), key(0, 3, true, true)];
-    check_order(&rt, alloc, &keys, [2, 0, 4, 1, 5, 3])?;
-    let keys = [
-        key(1, 3, false, true),
-        key(0, 0, true, false),
-        key(0, 0, false, false),
-    ];
-    check_order(&rt, alloc, &keys, [2, 1, 5, 3, 0, 4])?;
+    let catalogue = sample_catalogue(alloc)?;
+    for case in ORDERS.lines() {
+        let (order, digits) = case.split_once("| ").unwrap_or(("", ""));
+        let text = format!(in alloc; "SELECT a.n FROM t a, t b {order}")?;
+        let right = match block_of(alloc, &catalogue, text.as_str())? {
+            Some(block) => are_ordered(&rt, alloc, &catalogue, &block, digits)?,
+            None => false,
+        };
+        assert!(rt; right, "{case}");
+    }
     Ok(())
 }
 
-/// Compares the text that several threads make of combinations with the one that is expected.
-#[tactic(auto, using(crate::proofs::SampleLaws::sample_shown))]
-fn check_spread<R: Abort + Threads + Sync>(
+/// Whether the text of an answer is written by one thread, and its records by several.
+fn are_written<R: Threads + Sync>(
     rt: &R,
     alloc: Global,
-    threads: usize,
-    combos: &[Combo],
-    text: &str,
-) -> Result<(), Fail> {
-    let tables = sample_tables(alloc)?;
-    let block = sample_block(alloc, &[(0, 0), (0, 1), (0, 2), (0, 3), (1, 3)], &[])?;
+    catalogue: &Catalogue,
+    block: &Block,
+) -> Result<bool, Fail>
+    requires ready { IsReady catalogue.now.tables block.now }
+{
+    let tables = catalogue.tables();
+    let combos = falling(alloc, &PAIRS)?;
     let mut out = SureSink::with_room(alloc, 1000)?;
-    put_heading(&mut Vec::new(alloc), &block, &mut out)?;
-    put_all(rt, alloc, threads, &block, &tables, combos, &mut out)?;
-    assert_eq!(rt; out.written(), text.as_bytes());
-    Ok(())
+    write_answer(alloc, block, tables, combos.as_slice(), &mut out)?;
+    let text = format!(in alloc; "{HEADING}{RECORDS}")?;
+    let mut right = out.written() == text.as_bytes();
+    for threads in [1, 2, 3, 5, 16] {
+        let mut out = SureSink::with_room(alloc, 1000)?;
+        put_line(HEADING.as_bytes(), &mut out)?;
+        put_all(
+            rt,
+            alloc,
+            threads,
+            block,
+            tables,
+            combos.as_slice(),
+            &mut out,
+        )?;
+        right &= out.written() == text.as_bytes();
+    }
+    Ok(right)
 }
 
-#[test]
-#[tactic(auto, using(crate::proofs::SampleLaws::sample_shown))]
-fn answers_are_written(rt: HostRuntime) -> Result<(), Fail> {
-    let alloc = rt.alloc();
-    let tables = sample_tables(alloc)?;
-    let combos = falling(alloc, &[(5, 0), (4, 1), (3, 2), (2, 0), (1, 0), (0, 3)])?;
-    let block = sample_block(alloc, &[(0, 0), (0, 1), (0, 2), (0, 3), (1, 3)], &[])?;
-    let mut out = SureSink::with_room(alloc, 1000)?;
-    write_answer(alloc, &block, &tables, &combos, &mut out)?;
-    let text =
-        "x,x,x,x,\"y,\"\"z\"\"\"\n,a,-12.34,922337203685477.5807,\n1,\"two\nlines\r\",0.05,12.3456,-0.0001\n\
-         9223372036854775807,,,0.0000,1.2000\n-9223372036854775808,\"say \"\"a\"\"\",1.00,1.2000,\n\
-         ,\"a,b\",-0.05,-0.0001,\n1,b,0.05,,0.0000\n";
-    assert_eq!(rt; out.written(), text.as_bytes());
-    for threads in [1, 2, 3, 5, 16] {
-        check_spread(&rt, alloc, threads, &combos, text)?;
-    }
-
-    let block = sample_block(alloc, &[(0, 1)], &[])?;
+/// Whether an answer whose fourth put fails ends there, and leaves a sink that takes more.
+fn ends_at_a_fault(alloc: Global, catalogue: &Catalogue, block: &Block) -> Result<bool, Fail>
+    requires ready { IsReady catalogue.now.tables block.now }
+{
+    let combos = falling(alloc, &[(5, 0), (3, 0), (0, 0)])?;
     let mut out = MemorySink::with_room(alloc, 100)?;
     out.fail_at(4, 1)?;
-    let one = falling(alloc, &[(5, 0), (3, 0), (0, 0)])?;
-    let fault = write_answer(alloc, &block, &tables, &one, &mut out).err();
-    assert_eq!(rt; fault, Some(WriteFault::Failed));
-    assert_eq!(rt; out.written(), "x\na\n\"\"\nb".as_bytes());
-    assert_eq!(rt; out.faults(), 1);
-    assert_eq!(rt; out.put(b"!"), Ok(()));
-    Ok(())
+    let fault = write_answer(
+        alloc,
+        block,
+        catalogue.tables(),
+        combos.as_slice(),
+        &mut out,
+    )
+    .err();
+    Ok(
+        fault == Some(WriteFault::Failed)
+            && out.written() == "x\na\n\"\"\nb".as_bytes()
+            && out.faults() == 1
+            && out.put(b"!") == Ok(()),
+    )
 }
 
 /// So many combinations whose rows aren't in the table.
@@ -282,24 +245,62 @@ fn rowless(alloc: Global, many: u32) -> Result<Vec<Combo>, Memory> {
     Ok(combos)
 }
 
+/// How many bytes are taken of so many such records, where the third put fails.
+fn taken_of(alloc: Global, catalogue: &Catalogue, block: &Block, many: u32) -> Result<usize, Fail>
+    requires ready { IsReady catalogue.now.tables block.now }
+{
+    let combos = rowless(alloc, many)?;
+    let mut out = MemorySink::with_room(alloc, 200_000)?;
+    out.fail_at(3, 0)?;
+    // (what it answers is not asked for here)
+    let _fault = write_answer(
+        alloc,
+        block,
+        catalogue.tables(),
+        combos.as_slice(),
+        &mut out,
+    );
+    Ok(out.written().len())
+}
+
+#[test]
+fn answers_are_written(rt: HostRuntime) -> Result<(), Fail> {
+    let alloc = rt.alloc();
+    let catalogue = sample_catalogue(alloc)?;
+    let right = match block_of(alloc, &catalogue, WRITTEN)? {
+        Some(block) => are_written(&rt, alloc, &catalogue, &block)?,
+        None => false,
+    };
+    assert!(rt; right);
+    let right = match block_of(alloc, &catalogue, "SELECT a.t AS x FROM t a, t b")? {
+        Some(block) => ends_at_a_fault(alloc, &catalogue, &block)?,
+        None => false,
+    };
+    assert!(rt; right);
+    Ok(())
+}
+
+/// Whether what is taken of so many records is what was worked out.
+fn are_taken(alloc: Global, catalogue: &Catalogue, block: &Block) -> Result<bool, Fail>
+    requires ready { IsReady catalogue.now.tables block.now }
+{
+    Ok(
+        taken_of(alloc, catalogue, block, 4_096)? == 15
+            && taken_of(alloc, catalogue, block, 4_097)? == 10 + 5 * 4_097
+            && taken_of(alloc, catalogue, block, 20_000)? == 10 + 5 * 13_107,
+    )
+}
+
 /// Records of five nulls are five bytes each, so that 13,107 of them are a block: the third put is the second block's.
 #[test]
-#[tactic(auto, using(crate::proofs::SampleLaws::sample_shown))]
 fn large_answers_are_put_in_blocks(rt: HostRuntime) -> Result<(), Fail> {
     let alloc = rt.alloc();
-    let tables = sample_tables(alloc)?;
-    let block = sample_block(alloc, &[(0, 0), (0, 1), (0, 2), (0, 3), (0, 3)], &[])?;
-    for (many, taken) in [
-        (4_096, 15),
-        (4_097, 10 + 5 * 4_097),
-        (20_000, 10 + 5 * 13_107),
-    ] {
-        let combos = rowless(alloc, many)?;
-        let mut out = MemorySink::with_room(alloc, 200_000)?;
-        out.fail_at(3, 0)?;
-        // (what it answers is not asked for here)
-        let _fault = write_answer(alloc, &block, &tables, &combos, &mut out);
-        assert_eq!(rt; out.written().len(), taken);
-    }
+    let catalogue = sample_catalogue(alloc)?;
+    let text = "SELECT a.n AS x, a.t AS x, a.d AS x, a.e AS x, a.e AS x FROM t a, t b";
+    let right = match block_of(alloc, &catalogue, text)? {
+        Some(block) => are_taken(alloc, &catalogue, &block)?,
+        None => false,
+    };
+    assert!(rt; right);
     Ok(())
 }

@@ -7,7 +7,7 @@ ghost use Rattle.std.specs.Prelude.{◌≡◌, ◌≤◌, ◌==◌, cond, IfOk};
 ghost use Rattle.sq_value.specs.Relation.{HasKind};
 ghost use Rattle.sq_value.specs.declared.value.ColType.TheVariants as kind;
 
-use crate::Cache;
+use predicate_cache::Cache;
 use sq_value::{ColType, Dec, Kinds, Predicates, SqText, Truth, Value};
 use std::alloc::Global;
 use std::sync::atomic::{AtomicU64, Ordering};

@@ -4,7 +4,11 @@
 #![tactic(auto)]
 
 #[cfg(test)]
+mod answers;
+#[cfg(test)]
 mod bags;
+#[cfg(test)]
+mod caches;
 #[cfg(test)]
 mod catalogues;
 #[cfg(test)]
@@ -16,9 +20,15 @@ mod demos;
 #[cfg(test)]
 mod folders;
 #[cfg(test)]
+mod given;
+#[cfg(test)]
+mod groups;
+#[cfg(test)]
 mod indexes;
 #[cfg(test)]
 mod lookups;
+#[cfg(test)]
+mod notes;
 #[cfg(test)]
 mod policies;
 #[cfg(test)]

@@ -1,7 +1,7 @@
-use Rattle.std.proofs.Common.{ℕ, ◌≤◌, All, slice_index}
+use Rattle.std.proofs.Common.{◌≤◌, All, slice_index}
 use Rattle.bag_meaning.specs.declared.combo.Combo.{Combo}
-use Rattle.result_sink.specs.Samples.{Fall}
-use Rattle.result_sink.proofs.tests.falling.Given as goal
+use Rattle.worked_cases.specs.Ready.{Fall}
+use Rattle.worked_cases.proofs.given.falling.Given as goal
 
 abbrev pub invariant-loop-first : goal.invariant-loop-first
 invariant-loop-first l = record {

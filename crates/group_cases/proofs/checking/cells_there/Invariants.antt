@@ -1,8 +1,0 @@
-use Rattle.std.proofs.Common.{take}
-use Rattle.std.specs.Prelude.{All}
-use Rattle.sq_expr.specs.Shapes.{IsColumn}
-use Rattle.sq_expr.specs.declared.shape.Cell.{Cell}
-use Rattle.group_cases.proofs.checking.cells_there.Given as goal
-
-abbrev pub invariant-loop-cell : goal.invariant-loop-cell
-invariant-loop-cell l = All (λ (cell : Cell). IsColumn l.tables l.block cell.column) (take l.cell-index l.cells)
