@@ -2,3 +2,4 @@ mod BagLemmas
 mod ConditionLemmas
 mod NoteRows
 mod ReadyLemmas
+mod RemoteLemmas

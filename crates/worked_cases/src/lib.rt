@@ -8,6 +8,10 @@ mod answers;
 #[cfg(test)]
 mod bags;
 #[cfg(test)]
+mod bindings;
+#[cfg(test)]
+mod boards;
+#[cfg(test)]
 mod caches;
 #[cfg(test)]
 mod catalogues;
@@ -33,6 +37,8 @@ mod notes;
 mod policies;
 #[cfg(test)]
 mod predicates;
+#[cfg(test)]
+mod remotes;
 #[cfg(test)]
 mod scripts;
 #[cfg(test)]

@@ -1,8 +1,0 @@
-use Rattle.std.proofs.Common.{◌≡◌, ◌+◌}
-use Rattle.board_cases.proofs.tests.fill.Given as goal
-
-abbrev pub invariant-loop-stamp : goal.invariant-loop-stamp
-invariant-loop-stamp l = record {
-  plan : l.pool.sample.plan ≡ 7;
-  left : l.pool.puts_left + l.stamp ≡ l.room;
-}

@@ -1,7 +1,0 @@
-use Rattle.std.proofs.Common.{take}
-use Rattle.std.specs.Prelude.{All}
-use Rattle.remote_cases.specs.Fit.{IsReached}
-use Rattle.remote_cases.proofs.fit.are_reached.Given as goal
-
-abbrev pub invariant-loop-item : goal.invariant-loop-item
-invariant-loop-item l = All (IsReached l.remotes) (take l.item-index l.block.aliases)
