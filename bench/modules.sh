@@ -1,6 +1,6 @@
 #!/bin/sh
 # Measures a state module beside a plain loop over a hash table of the same kind, in one run, and prints nanoseconds of
-# processor time a row. The program takes its making of blocks and tuples from module_cases.
+# processor time a row. The program takes its making of blocks and tuples from engine_cases.
 set -e
 here=$(cd "$(dirname "$0")" && pwd)
 top=$(dirname "$here")
@@ -16,8 +16,8 @@ for crate in $low; do
 done
 echo "modules_bench: $(echo $low) sqlite_items csv indexmap arrayvec anyhow" >> "$work/crates.txt"
 cp "$top/HANDLES" "$work/"
-cases=$top/crates/module_cases
-renamed() { sed -e 's/module_cases/modules_bench/g' "$1"; }
+cases=$top/crates/engine_cases
+renamed() { sed -e 's/engine_cases/modules_bench/g' "$1"; }
 renamed "$cases/src/given.rt" > "$bench/src/given.rt"
 renamed "$cases/src/tuples.rt" | sed -e 's/^fn is_legal/pub fn is_legal/; s/^fn built/pub fn built/' > "$bench/src/tuples.rt"
 (cd "$cases" && find specs proofs/Lib.antt proofs/TupleLemmas.antt proofs/tuples -type f) \

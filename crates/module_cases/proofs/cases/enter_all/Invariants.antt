@@ -1,5 +1,0 @@
-use Rattle.module_cases.specs.Given.{IsModuleOf}
-use Rattle.module_cases.proofs.cases.enter_all.Given as goal
-
-abbrev pub invariant-loop-build : goal.invariant-loop-build
-invariant-loop-build l = IsModuleOf l.block l.tables l.group.alias l.stem

@@ -1,5 +1,0 @@
-use Rattle.module_cases.specs.Given.{IsModuleOf}
-use Rattle.module_cases.proofs.cases.probes_answer.Given as goal
-
-abbrev pub invariant-loop-route : goal.invariant-loop-route
-invariant-loop-route l = IsModuleOf l.block l.tables l.alias l.stem

@@ -1,5 +1,0 @@
-use Rattle.module_cases.specs.Given.{IsModuleOf}
-use Rattle.module_cases.proofs.cases.wrong_case.Given as goal
-
-abbrev pub invariant-loop-line : goal.invariant-loop-line
-invariant-loop-line l = IsModuleOf l.block l.tables l.group.alias l.stem

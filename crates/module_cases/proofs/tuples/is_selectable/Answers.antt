@@ -1,4 +1,0 @@
-use Rattle.module_cases.proofs.tuples.is_selectable.Goals as goal
-
-pub returns : goal.returns
-returns c e = c.is_legal.ensures.0 e

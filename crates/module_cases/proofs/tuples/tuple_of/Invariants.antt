@@ -1,5 +1,0 @@
-use Rattle.eddy_meaning.specs.Faithful.{IsSound}
-use Rattle.module_cases.proofs.tuples.tuple_of.Given as goal
-
-abbrev pub invariant-loop-word : goal.invariant-loop-word
-invariant-loop-word l = IsSound l.block l.tables l.tuple
