@@ -4,24 +4,16 @@
 
 ghost use Rattle.std.specs.Prelude.{◌≡◌, ◌⊎◌};
 
-mod asking;
-mod host;
-mod planning;
-mod program;
-mod run;
-mod shipping;
-
 use eddy_worker::NoGate;
-use host::Host;
 use outside::{RealFolder, RealSink};
-use program::{all_words, code_for};
 use run_base::Outputs;
 use run_notes::put_note;
 use run_plan::Status;
-use shipping::program_as_shipped;
 use std::io;
 use std::process::ExitCode;
 use std::rt::Env;
+use whole_run::program::{all_words, code_for};
+use whole_run::{Host, program_as_shipped};
 
 // The words that the program was started with.
 fn given_words(rt: &(impl Env + AllocGlobal)) -> io::Result<Vec<String>> {

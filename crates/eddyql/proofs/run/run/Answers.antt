@@ -1,7 +1,0 @@
-use Rattle.eddyql.proofs.HeadlineLemmas.{headline_of}
-use Rattle.eddyql.proofs.run.run.Goals as goal
-
-pub returns : goal.returns
-returns g c = record {
-  headline = headline_of _ _ _ _ _ _ c.run_words.result c.run_words.ensures.finished c.run_words.ensures.untouched;
-}

@@ -1,0 +1,7 @@
+use Rattle.std.proofs.Common.{◌≡◌, ◌++◌, length}
+use Rattle.std.specs.Vec.Iter.{into_iter_items, into_iter_len}
+use Rattle.whole_run.proofs.program.all_words.Given as goal
+
+abbrev pub invariant-loop-word : goal.invariant-loop-word
+invariant-loop-word l = (l.all.items ++ into_iter_items l.word-iterator ≡ into_iter_items l.initial.word-iterator)
+    × (into_iter_len l.word-iterator ≡ length (into_iter_items l.word-iterator))
