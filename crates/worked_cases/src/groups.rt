@@ -1,7 +1,8 @@
 //! Statements with groups, DISTINCT and LIMIT over small tables, whose lines were worked out by hand.
 //!
-//! A case is a line: how many rows are members, how the bound shape is changed, the statement, and its text with a slash
-//! for each line's end. Members come with falling rows, so that `report` has to put them in the order of the product.
+//! A case is a line: how many rows are members, how the bound shape is changed, the statement, and its text with a
+//! slash for each line's end. Members come with falling rows, so that `report` has to put them in the order of the
+//! product.
 //! `first` takes the last column of GROUP BY away, so that a cell shows what its group's first member has. `distinct`
 //! has lines told apart that are sorted by another column, and all of them; binding refuses both.
 ghost use Rattle.std.specs.Prelude.{◌≡◌, ◌<◌, ◌≤◌, [], length, true, IfOk};
@@ -22,8 +23,8 @@ use sqlite_items::Items;
 use std::alloc::Global;
 use std::test::Fail;
 
-/// Four orders: oid, cid and amt, a text, and two prices of 2 and 4 places. Numbers and a null. Two numbers that together
-/// pass 64 bits.
+/// Four orders: oid, cid and amt, a text, and two prices of 2 and 4 places. Numbers and a null. Two numbers that
+/// together pass 64 bits.
 const TABLES: &str = "\
 ord oid:int,cid:int,amt:int,t:text,d:dec2,e:dec4/10,1,5,b,1.50,1.5000/11,1,7,,0.25,1.5000/12,2,5,ab,1.50,/13,,9,b,,
 n x:int,cid:int,amt:int,t:text,d:dec2,e:dec4/1,,,,,/2,,,,,/,,,,,
@@ -31,7 +32,8 @@ large oid:int,cid:int,amt:int,t:text,d:dec2,e:dec4\
 /9223372036854775807,,-9223372036854775808,,,/9223372036854775807,,-9223372036854775808,,,";
 
 const CASES: &str = "\
-4 |  | SELECT cid, COUNT(*) AS k, SUM(amt) FROM ord GROUP BY cid ORDER BY k DESC NULLS LAST | cid,k,sum/1,2,12/2,1,5/,1,9/
+4 |  | SELECT cid, COUNT(*) AS k, SUM(amt) FROM ord GROUP BY cid ORDER BY k DESC NULLS LAST | \
+cid,k,sum/1,2,12/2,1,5/,1,9/
 0 |  | SELECT cid, COUNT(*) AS k, SUM(amt) FROM ord GROUP BY cid ORDER BY k DESC NULLS LAST | cid,k,sum/
 0 |  | SELECT COUNT(cid), MIN(amt), MAX(amt) FROM ord | count,min,max/0,,/
 4 |  | SELECT COUNT(cid), MIN(amt), MAX(amt) FROM ord | count,min,max/3,5,9/
