@@ -16,15 +16,15 @@ use std::alloc::Global;
 use std::test::Fail;
 use tuple_span::{Route, Tuple, Via};
 
-/// A block, and what its random events are drawn by: the state of the numbers, and of how many kinds a route is, with a
-/// probe by a band as the last one.
+/// A block, and what its random events are drawn by: the state of the numbers, and the last of the kinds that a route is
+/// of, from 0 on. With 6 the last one is a probe by a band.
 #[derive(Clone, Copy)]
 struct Sample {
     lines: &'static str,
     ways: &'static str,
     text: &'static str,
     state: u64,
-    kinds: u64,
+    last_kind: u64,
 }
 
 /// A block of three aliases, and one of two with a range beside an equality. Each has an alias that look-ups alone
@@ -35,14 +35,14 @@ const SAMPLES: [Sample; 2] = [
         ways: "s1 s 0",
         text: "SELECT a.x FROM r a, t b, s c WHERE c.x=a.y AND b.x=c.x",
         state: 9282619224369179792,
-        kinds: 6,
+        last_kind: 5,
     },
     Sample {
         lines: "r x:int,y:int/1,2/3,0/1,/3,/1,2\ns x:int,y:int/3,2/1,0/0,1\nt x:int,y:int/3,1/,2/1,\n",
         ways: "s1 1 1",
         text: "SELECT a.x FROM s a, r b WHERE b.x<=a.y AND b.x=a.y",
         state: 57076528561608339,
-        kinds: 6,
+        last_kind: 5,
     },
 ];
 
@@ -52,7 +52,7 @@ const BANDED: Sample = Sample {
     ways: "s 1 s",
     text: "SELECT a.x FROM r a, s b, t c WHERE b.y=a.y AND a.x BETWEEN b.x AND c.x",
     state: 41,
-    kinds: 7,
+    last_kind: 6,
 };
 
 /// How often a step may want memory before a test ends with that error.
@@ -70,12 +70,10 @@ fn next(state: &mut u64, below: u64) -> u64
 }
 
 // A route by its numbers, legal or not.
-fn route(state: &mut u64, kinds: u64) -> Route
-    requires { 0 < kinds }
-{
+fn route(state: &mut u64, last_kind: u64) -> Route {
     let alias = next(state, 3) as u8;
     let conjunct = next(state, 4) as u8;
-    match next(state, kinds) {
+    match next(state, last_kind.saturating_add(1)) {
         0 => Route::Select(conjunct),
         1 => Route::Build { alias },
         2 => Route::Probe {
@@ -111,10 +109,8 @@ fn key_event(state: &mut u64, asked: usize) -> Event {
     }
 }
 
-// An event, legal or not, where so many tuples are pending and so many keys asked, with a route of so many kinds.
-fn event(state: &mut u64, pending: usize, asked: usize, kinds: u64) -> Event
-    requires { 0 < kinds }
-{
+// An event, legal or not, where so many tuples are pending and so many keys asked, with a route of kinds up to the last.
+fn event(state: &mut u64, pending: usize, asked: usize, last_kind: u64) -> Event {
     match next(state, 16) {
         0 => Event::Claim {
             alias: next(state, 3) as u8,
@@ -122,7 +118,7 @@ fn event(state: &mut u64, pending: usize, asked: usize, kinds: u64) -> Event
         1 | 2 if asked > 0 => key_event(state, asked),
         _ => {
             let place = next(state, (pending as u64).saturating_add(1)) as usize;
-            let route = route(state, kinds);
+            let route = route(state, last_kind);
             Event::Route { place, route }
         }
     }
@@ -183,7 +179,7 @@ fn drive(alloc: Global, core: &mut Core<'_, NoPredicates>, sample: &Sample) -> R
             &mut state,
             core.pending().len(),
             core.asked().len(),
-            sample.kinds,
+            sample.last_kind,
         );
         let before = sum_of(core);
         if core.step(alloc, event) == Err(StepRefused::Memory) {
