@@ -1,4 +1,4 @@
-"""The record of a crate's edits: that the check refused each, and over which definitions, contracts and bodies of edits it was.
+"""The record of a crate's edits: which of them the check refused, and over which definitions, contracts and bodies of edits it was.
 
 A record is crates/NAME/more-edits/RECORD. It has a sum of the crate's definitions (specs/), one of its contracts (all of src/
 but bodies, comments and attributes), one of the definitions and public contracts of all crates below it, and one of each
@@ -10,7 +10,7 @@ import re
 import edits
 import sources
 
-HEAD = "# Written by tools/more-edits once the check had refused each edit of this crate. tools/lint compares the sums.\n"
+HEAD = "# Written by tools/more-edits once the check had refused these edits of this crate. tools/lint compares the sums.\n"
 
 
 def sum_of(texts):
