@@ -115,6 +115,7 @@ statement 1: type mismatch at byte 28
     ("a short record", ["-c", "SELECT id FROM short", "short.csv"], 4, """\
 table short: record 2 is unequal
   short.csv:5: 1 field, and the heading has 2: '2'
+  --ragged reads what is missing at a record's end as nulls
 """),
     ("a number with too many digits", ["-c", "SELECT id FROM marked", "marked.csv"], 4, """\
 table marked: record 2 field 2 is not a decimal
@@ -122,12 +123,12 @@ table marked: record 2 field 2 is not a decimal
 """),
     ("two columns of one name", ["-c", "SELECT id FROM twice", "twice.csv"], 4, """\
 table twice: field 3 repeats a column
-  twice.csv:1: column name is there twice; names are compared without regard to case
+  twice.csv:1: column name is there twice; names are compared without regard to case; --rename reads it as name_2
 """),
     ("a file that isn't UTF-8", ["-c", "SELECT id FROM latin", "latin.csv"], 4, """\
 table latin: record 1 field 2 is not UTF-8
   latin.csv:2: column name:text is 'J\ufffdrg'
-  the file isn't UTF-8: iconv -f latin1 -t utf-8 FILE
+  latin.csv isn't UTF-8 but, by its bytes, latin1: --encoding latin1 reads it
 """),
     ("an empty file", ["-c", "SELECT id FROM empty", "empty.csv"], 4, """\
 table empty: no heading
