@@ -42,6 +42,7 @@ ROWS = (
     ("", "", "#", "a comment begins with -- and goes to the end of its line"),
     ("", "", "`", 'a name is between double quotes: "so"'),
     ("", "", r"\[", 'a name is between double quotes: "so"'),
+    ("", "", ": :", OF_FUNCTIONS["cast"]),
     ("", "", r"[?@$:]", "there are no parameters: write the value itself"),
     # How a statement begins.
     ("", "^", r"\. (import|read|open)\b", "a table is a word of the command line: t=FILE.csv, or FILE.csv alone"),
@@ -53,14 +54,17 @@ ROWS = (
     ("", "^", r"(insert|update|delete|create|drop|alter|merge|copy|attach|load|replace|truncate)\b", "a script has SELECTs alone: a table is a file, and an answer is written to one by > FILE"),
     ("", "^", r"(from|values|table)\b", "a statement begins with SELECT: SELECT * FROM t"),
     ("", "^", r"\( select\b", "a statement has no parentheses around it"),
+    ("", "^", r"\w", "a statement begins with SELECT: SELECT * FROM t"),
     # Joins, subqueries and set operations.
     ("", "", r"(natural|using)\b", "NATURAL and USING aren't in the dialect: FROM a JOIN b ON a.x = b.x"),
     ("", r"\b(natural|using|anti|semi|asof|lateral|positional)$", "", "the only join is FROM a JOIN b ON a.x = b.x"),
     ("", "", r"(left|right|full|outer)\b(?! \()", "the only join is FROM a JOIN b ON a.x = b.x; it has the rows that match"),
     ("from", r"\bjoin (\S+ )*\S+$", r"(where|group|order|limit|join|inner|cross|,|;|$)", "JOIN wants a condition: ON a.x = b.x; CROSS JOIN has none"),
     ("from", r"(\bfrom|\bjoin|,)$", r"\(", f"a query in FROM isn't in the dialect: {INNER}"),
+    ("from", "", r"\. (csv|tsv|txt)\b", "a table is a name: t, and t=FILE.csv on the command line"),
     ("from", r"(\bfrom|\bjoin|,)$", "'", "a table is a name: t, and t=FILE.csv on the command line"),
     ("", r"\bin \($", r"select\b", f"a subquery isn't in the dialect: join with the other table, and select DISTINCT; or {INNER}"),
+    ("", "", r"\( select\b", f"a subquery isn't in the dialect: {INNER}"),
     ("", r"\( *$", r"select\b", f"a subquery isn't in the dialect: {INNER}"),
     ("", r"\b(any|all|some)$", r"\(", f"a subquery isn't in the dialect: {INNER}"),
     ("", "", r"union\b", "UNION isn't in the dialect: write two statements, with ; between them; several files of one table are t=a.csv t=b.csv"),
@@ -68,7 +72,7 @@ ROWS = (
     ("", r"\b(except|minus)$", r"(select|all)\b", "EXCEPT isn't in the dialect: write both answers to files, and compare them with comm"),
     # Words of other dialects.
     ("", r"^select (distinct |all )?top$", r"\d", "TOP isn't in the dialect: LIMIT 5 is at the end of the statement"),
-    ("", r"\bdistinct on$", r"\(", "DISTINCT ON isn't in the dialect: GROUP BY x with MIN or MAX of the other columns"),
+    ("", r"\bdistinct$", r"on \(", "DISTINCT ON isn't in the dialect: GROUP BY x with MIN or MAX of the other columns"),
     ("", r"\b(fetch|limit)$", r"(first|next|all)\b", "LIMIT 5 is at the end of the statement"),
     ("", r"\bfetch$", "", "LIMIT 5 is at the end of the statement"),
     ("", "", r"(fetch|offset|qualify)\b", "OFFSET and FETCH aren't in the dialect: LIMIT 5 keeps the first records, and tail -n +N drops some"),
@@ -82,13 +86,19 @@ ROWS = (
     ("", r"\bover$", r"\(", OF_FUNCTIONS["row_number"]),
     ("", "", r"case\b", f"CASE isn't in the dialect: write a statement for each case, or {SECOND_RUN}"),
     ("", "", r"cast\b", OF_FUNCTIONS["cast"]),
-    ("", "", ": :", OF_FUNCTIONS["cast"]),
     ("", "", r"exists\b", OF_FUNCTIONS["exists"]),
     ("", "", r"(not )?(i?like)\b", "LIKE isn't in the dialect: for LIKE 'ab%' write x >= 'ab' AND x < 'ac'"),
     ("", "", r"(not )?(regexp|rlike|glob|similar|match|~)", "patterns aren't in the dialect: a text's front is x >= 'ab' AND x < 'ac'; filter the file by grep for the rest"),
     ("", "", r"(isnull|notnull|not null)\b", "x IS NULL, and x IS NOT NULL"),
+    ("", r"\bnot$", r"null\b", "x IS NULL, and x IS NOT NULL"),
+    ("where on", r"<=$", ">", "a comparison with null is Unknown: x = y OR x IS NULL AND y IS NULL"),
+    ("where on", r"\bextract \( \w+$", r"from\b", NO_DATES),
+    ("", r"\bin \($", r"\)", "IN has one value at least"),
+    ("", r"\b(order|group)$", "", "ORDER BY and GROUP BY are two words each"),
+    ("", r"\btablesample$", "", "TABLESAMPLE isn't in the dialect: LIMIT keeps the first records"),
     ("", r"\bis( not)?$", r"distinct\b", "IS DISTINCT FROM isn't in the dialect: (x = y) IS NOT TRUE"),
-    ("", r"\bbetween$", r"(symmetric|asymmetric)\b", "BETWEEN has the least value first"),
+    ("", r"\bbetween (symmetric|asymmetric)$", "", "BETWEEN has the least value first"),
+    ("where on", r"\bbetween (\S+ \. )?\S+$", r"(or\b|,|\)|;|$)", "BETWEEN has two values: x BETWEEN 1 AND 9"),
     ("", "", r"= =", "equality is one sign: ="),
     ("", r"=$", "=", "equality is one sign: ="),
     ("", "", r"& &", "AND, OR and NOT are words"),
@@ -101,6 +111,7 @@ ROWS = (
     ("", r"\d \.$", r"\d", "a script has whole numbers alone: for price < 1.5 write 10 * price < 15"),
     ("", r"(^|[^\w.\s\"])$", r"\. \d", "a script has whole numbers alone: for price < 1.5 write 10 * price < 15"),
     ("", r"\d$", r"e\d*\b", "a script has whole numbers alone, without an exponent"),
+    ("where on", r"\( (\S+ )*[-+*] (\S+ \. )?\S+$", r"\) ([-+*/<>=]|between|in\b)", "a sum has no parentheses: write 2 * a + 2 * b in place of 2 * (a + b)"),
     ("where on", r"\)$", r"[-+*/%]", "a sum has no parentheses: write 2 * a + 2 * b in place of 2 * (a + b)"),
     ("where on", r"[-+*] ?$", r"\(", "a sum has no parentheses: write 2 * a + 2 * b in place of 2 * (a + b)"),
     ("where on", r"\*$", "", "a sum multiplies a column by a number alone"),
@@ -111,16 +122,21 @@ ROWS = (
     ("select", r"\b(sum|min|max) \($", r"distinct\b", "DISTINCT isn't in set functions: SELECT DISTINCT x, and the set function in a second run over that answer"),
     ("select", r"\bcount \($", r"\d", "COUNT(*) counts rows"),
     ("select", r"\b(count|sum|min|max) \( ?[^()]*$", "", "a set function is of one column; work out sums of several in the file"),
+    ("select", r"\bfilter$", r"\(", "FILTER isn't in the dialect: write a statement with WHERE"),
+    ("select", r"\*$", r"(except|exclude|replace)\b", "* has all columns: name those that are wanted"),
+    ("select", r"^select (distinct |all )?\*$", ",", "* is alone: with other items write t.*, of each table"),
     ("select", r"\bas$", "'", 'a name is between double quotes: AS "so"'),
     ("select", "", r"(\d|')", "the select list has no constants: put them into the answer afterwards"),
     ("select", "", r"[-+*/%(|]", COLUMNS_ALONE),
     ("select", r",$", r"from\b", "there is a comma too many before FROM"),
     ("order", r"(\bby|,)$", r"\d", "ORDER BY names columns: ORDER BY total DESC"),
     ("group", r"(\bby|,)$", r"\d", "GROUP BY names columns: GROUP BY city"),
+    ("group", r"by$", r"(all|rollup|cube|grouping)\b", "GROUP BY names columns: GROUP BY city"),
     ("order group", "", r"[-+*/%(]", "GROUP BY and ORDER BY have columns alone"),
     ("select", "", "$", "a statement is SELECT columns FROM tables"),
     # A condition that compares nothing.
-    ("where on", r"\b(where|on|and|or|not|\() (\S+ \. )?[^\s()<>=]+$", r"(and\b|or\b|\)|group\b|order\b|limit\b|where\b|join\b|;|$)", "a condition compares: {bare} = 1, or {bare} = 'yes', or {bare} IS NOT NULL"),
+    ("where on", r"\b(and|or|not)$", r"(group\b|order\b|limit\b|where\b|\)|;|$)", "a condition is missing after AND, OR or NOT"),
+    ("where on", r"(\b(where|on|and|or|not)|\() (\S+ \. )?[^\s()<>=]+$", r"(and\b|or\b|\)|group\b|order\b|limit\b|where\b|join\b|;|$)", "a condition compares: {bare} = 1, or {bare} = 'yes', or {bare} IS NOT NULL"),
 )
 CLAUSES = ("select", "from", "on", "where", "group", "order", "limit")
 
@@ -169,12 +185,12 @@ def instead(tokens, at, columns):
     before, rest = ([*it] for it in (as_words([one for one in tokens if one[0] < at]), as_words([one for one in tokens if one[0] >= at])))
     if rest[:1] in (["'"], ['"']):
         return [f"this quote is never closed; one inside is doubled: {rest[0]}Ada{2 * rest[0]}s{rest[0]}"]
-    if name := of_name_with_blanks(before, rest, columns):
+    function, clause = called(before, rest), clause_of(before)
+    if clause != "from" and (name := of_name_with_blanks(before, rest, columns)):
         return [f"a name that is no plain word is between double quotes: {quoted(name)}"]
-    function = called(before, rest)
     if function in OF_FUNCTIONS:
         return [OF_FUNCTIONS[function]]
-    clause, front, here = clause_of(before), " ".join(before), " ".join(rest)
+    front, here = " ".join(before), " ".join(rest)
     for clauses, ends, begins, said in ROWS:
         if (not clauses or clause in clauses.split()) and re.search(f"(?:{ends})$" if ends not in ("", "^") else "^$" if ends else "", front) and re.match(begins, here):
             bare = front.rpartition(" ")[2]
