@@ -10,6 +10,11 @@ FILES = {
     "marked.csv": b"id,cost:dec2\n1,2.50\n2,2.505\n",
     "twice.csv": b"id,Name,name\n",
     "latin.csv": b"id,name:text\n1,J\xf6rg\n",
+    "long.csv": b"1,2\n\n2,3\n3,4,5\n",
+    "semi.csv": b"id;name\n1;Ada\n",
+    "wide.csv": "id\n1\n".encode("utf-16"),
+    "2026.csv": b"First Name\nAda\n",
+    "nearly.csv": b"cost\n2.50\n",
     "empty.csv": b"",
     "bad.csv.gz": b"id,name\n",
     "marked.sql": b"\xef\xbb\xbfSELECT id FROM people\n",
@@ -146,6 +151,47 @@ statement 1: alias 2 is unreachable
     ("a file that isn't there", ["-c", "SELECT id FROM people", "p=nosuch.csv"], 5, """\
 read fault: table p
   nosuch.csv: No such file or directory
+"""),
+    ("one file of several that isn't there", ["-c", "SELECT id FROM p", "p=people.csv", "p=nosuch.csv"], 5, """\
+read fault: table p
+  nosuch.csv: No such file or directory
+"""),
+    ("a record that is too long", ["--ragged", "--no-header", "-c", "SELECT c1 FROM short", "short.csv", "long.csv"], 4, """\
+table long: record 3 is unequal
+  long.csv:4: 3 fields, and the heading has 2: '3,4,5'
+"""),
+    ("a heading with another separator", ["-c", "SELECT id FROM semi", "semi.csv"], 3, """\
+statement 1: unknown column at byte 7
+  -c:1:8
+    SELECT id FROM semi
+           ^
+  semi.csv: its heading is one field, with ; in it: --separator ';' reads it
+"""),
+    ("a file in UTF-16", ["-c", "SELECT id FROM wide", "wide.csv"], 4, """\
+table wide: record 0 field 1 is not UTF-8
+  wide.csv isn't UTF-8 but, by its bytes, utf-16: --encoding utf-16 reads it
+"""),
+    ("a name that is no word", ["-c", 'SELECT First FROM "2026"', "2026.csv"], 3, """\
+statement 1: unknown column at byte 7
+  -c:1:8
+    SELECT First FROM "2026"
+           ^
+  did you mean "First Name"?
+"""),
+    ("a function that isn't there", ["-c", "SELECT id FROM people WHERE contains(name, 'a')", "people.csv"], 3, """\
+statement 1: unknown function at byte 28
+  -c:1:29
+    SELECT id FROM people WHERE contains(name, 'a')
+                                ^
+  there are no functions of texts: change the file before the run; a text's front is x >= 'ab' AND x < 'ac'
+"""),
+    ("numbers that are texts", ["-c", "SELECT cost FROM nearly WHERE cost > 1", "nearly.csv"], 3, """\
+statement 1: type mismatch at byte 30
+  -c:1:31
+    SELECT cost FROM nearly WHERE cost > 1
+                                  ^
+  numbers are compared with numbers, texts with texts, and a sum is of numbers; --type T.C=dec2 reads a column as numbers
+  cost of nearly.csv: 1 of 1 are numbers, with up to 2 digits after the point: --type nearly.cost=dec2 reads them
 """),
     ("a file that isn't packed", ["-c", "SELECT id FROM bad", "bad.csv.gz"], 5, """\
 read fault: table bad
