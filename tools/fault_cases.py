@@ -201,6 +201,14 @@ read fault: table bad
 usage: eddyql [OPTIONS] SCRIPT NAME=FILE.. or eddyql [OPTIONS] --demo ROWS
   there is no option --polcy; did you mean --policy? eddyql --help has the words
 """),
+    ("an option of other programs", ["--output", "x.csv", "two.sql", "people.csv"], 2, """\
+usage: eddyql [OPTIONS] SCRIPT NAME=FILE.. or eddyql [OPTIONS] --demo ROWS
+  there is no option --output: an answer is written to a file by > FILE; eddyql --help has the words
+"""),
+    ("an option of the launcher that is misspelt", ["--tabel", "two.sql", "people.csv"], 2, """\
+usage: eddyql [OPTIONS] SCRIPT NAME=FILE.. or eddyql [OPTIONS] --demo ROWS
+  there is no option --tabel; did you mean --table? eddyql --help has the words
+"""),
     ("no table", ["two.sql"], 2, """\
 usage: eddyql [OPTIONS] SCRIPT NAME=FILE.. or eddyql [OPTIONS] --demo ROWS
   a script and at least one table are wanted; eddyql --help has the words
