@@ -6,7 +6,7 @@ from table_files import EXPONENT, NUMBER, is_whole, text_of
 COMMA = re.compile(r"[+-]?(\d{1,3}(\.\d{3})+|\d+),\d+", re.A)
 # A share of numbers from which a column is nearly one of numbers, in tenths.
 NEARLY = 9
-MOST_NULLS, MOST_DIGITS, LONGEST = 3, 6, 40
+MOST_NULLS, MOST_DIGITS, LONGEST, MANY = 3, 6, 40, 1000
 
 
 def shown(field):
@@ -30,7 +30,7 @@ class Looks:
         if not field:
             return
         self.fields += 1
-        if is_whole(field):
+        if field.isdecimal() and field[0] != "0" and len(field) < 19 or is_whole(field):
             self.numbers += 1
             self.whole += 1
             self.lengths.add(len(field))
@@ -53,6 +53,10 @@ class Looks:
             self.digits = max(self.digits, len(field) - field.index(".") - 1)
         elif not self.odd:
             self.odd = line, field
+
+    def is_far(self):
+        """Whether the column is taken for one of other texts: of many fields less than a tenth are numbers."""
+        return self.fields >= MANY and 10 * (self.numbers + self.commas) < self.fields
 
     def is_nearly(self):
         """Whether nine tenths of the fields are numbers and yet not all are integers. Digits that begin with 0, all as many, are a code."""
@@ -89,10 +93,15 @@ class Looks:
 def looks_of(table, columns):
     """What columns of a table look like, by their numbers."""
     found = {it: Looks() for it in columns}
+    rest = list(found.items())
     for number, (line, fields) in enumerate(table.records()):
+        if number % MANY == 0:
+            rest = [(at, looks) for at, looks in rest if not looks.is_far()]
         if number:
-            for at, looks in found.items():
+            for at, looks in rest:
                 looks.add(line, fields[at] if at < len(fields) else "")
+        if not rest:
+            break
     return found
 
 
