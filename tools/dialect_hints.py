@@ -167,17 +167,17 @@ def called(before, rest):
     return None
 
 
-def of_name_with_blanks(before, rest, columns):
-    """The column whose name is the words here, where it is no word."""
+def name_here(before, rest, columns):
+    """What is said of a column whose name is the words here, and is no word: with a blank or another sign in it, or reserved."""
     front = before[-1:] if before and is_name(before[-1]) else []
     for begins in ([], front):
-        for length in (4, 3, 2, 1):
+        for length in (5, 4, 3, 2, 1):
             words = [*begins, *rest[: length - len(begins)]]
-            name = " ".join(name_in(it) for it in words)
-            found = [it for it in columns if folded(it) == folded(name)]
-            if found and not re.fullmatch(r"[A-Za-z_]\w*", found[0], re.A) or found and folded(found[0]) in RESERVED:
-                return found[0]
-    return None
+            name = "".join(name_in(it) for it in words)
+            found = next((it for it in columns if folded(it.replace(" ", "")) == folded(name) and quoted(it) != it), None)
+            if found and not any(it.startswith('"') for it in words):
+                return [f"a name that is no plain word is between double quotes: {quoted(found)}"]
+    return []
 
 
 def instead(tokens, at, columns):
@@ -186,8 +186,8 @@ def instead(tokens, at, columns):
     if rest[:1] in (["'"], ['"']):
         return [f"this quote is never closed; one inside is doubled: {rest[0]}Ada{2 * rest[0]}s{rest[0]}"]
     function, clause = called(before, rest), clause_of(before)
-    if clause != "from" and (name := of_name_with_blanks(before, rest, columns)):
-        return [f"a name that is no plain word is between double quotes: {quoted(name)}"]
+    if clause != "from" and (said := name_here(before, rest, columns)):
+        return said
     if function in OF_FUNCTIONS:
         return [OF_FUNCTIONS[function]]
     front, here = " ".join(before), " ".join(rest)

@@ -13,6 +13,7 @@ FILES = {
     "long.csv": b"1,2\n\n2,3\n3,4,5\n",
     "semi.csv": b"id;name\n1;Ada\n",
     "wide.csv": "id\n1\n".encode("utf-16"),
+    "signs.csv": b"id,unit-price\n1,2\n",
     "2026.csv": b"First Name\nAda\n",
     "nearly.csv": b"cost\n2.50\n",
     "empty.csv": b"",
@@ -177,6 +178,13 @@ statement 1: unknown column at byte 7
     SELECT First FROM "2026"
            ^
   did you mean "First Name"?
+"""),
+    ("a name with a sign in it", ["-c", "SELECT id FROM signs WHERE unit-price > 2", "signs.csv"], 3, """\
+statement 1: unknown column at byte 27
+  -c:1:28
+    SELECT id FROM signs WHERE unit-price > 2
+                               ^
+  a name that is no plain word is between double quotes: "unit-price"
 """),
     ("a function that isn't there", ["-c", "SELECT id FROM people WHERE contains(name, 'a')", "people.csv"], 3, """\
 statement 1: unknown function at byte 28
